@@ -1,0 +1,5 @@
+pub mod Log
+pub mod Sight
+pub mod Law
+pub mod Numbers
+pub mod Calls

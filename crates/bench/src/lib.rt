@@ -1,0 +1,20 @@
+// The bench: runs are opened, events taken, marks told and runs closed, over any observer.
+pub mod answers;
+pub mod calls;
+pub mod looking;
+pub mod plain;
+pub mod slip;
+pub use answers::Refusal;
+pub use answers::RefusalDebug;
+pub use answers::Reply;
+pub use answers::ReplyDebug;
+pub use answers::Report;
+pub use answers::Sight;
+pub use calls::Calls;
+
+pub use looking::LookBench;
+pub use looking::LookBenchCalls;
+pub use plain::Bench;
+pub use plain::BenchCalls;
+pub use slip::Slip;
+pub use slip::write_off;

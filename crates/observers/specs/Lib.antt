@@ -1,0 +1,2 @@
+pub mod Foresight
+pub mod Turned
