@@ -1,0 +1,8 @@
+ghost use Prim.Native.Nat.{_<_};
+
+// A braille cell: bit d - 1 of `dots` is set where dot d is raised.
+#[derive(Clone, Copy, PartialEq, Eq, Debug)]
+pub struct Cell {
+    pub(crate) dots: u8,
+    ghost six: { dots < 64 },
+}

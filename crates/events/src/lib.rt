@@ -1,0 +1,17 @@
+pub mod cell;
+pub mod dots;
+pub mod kind;
+pub mod machine;
+pub mod refusal;
+pub mod sheet;
+pub mod word;
+pub use cell::Cell;
+pub use kind::Kind;
+pub use machine::Action;
+pub use machine::MachineKind;
+pub use machine::MachineName;
+pub use refusal::EventRefusal;
+pub use sheet::SheetEvent;
+pub use sheet::SheetKind;
+pub use sheet::SheetName;
+pub use word::MachineEvent;
