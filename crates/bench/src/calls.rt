@@ -33,5 +33,6 @@ pub trait Calls {
     // Tells what ask tells and ends the run, or hands the slip back.
     fn close(&mut self, slip: Slip) -> Result<Report, (Slip, Refusal)>
         ensures law { λ r. ⌜ Lawful stands (now (self .entry)) (closing slip) (closeReply r) (now (self .exit)) ⌝ }
-        ensures same { λ r. ⌜ Cases r (λ _. Unit {0}) (λ p. (p .0 ≡ slip) × (now (self .exit) ≡ now (self .entry))) ⌝ };
+        ensures back { λ r. ⌜ Cases r (λ _. Unit {0}) (λ p. p .0 ≡ slip) ⌝ }
+        ensures same { λ r. ⌜ Cases r (λ _. Unit {0}) (λ _. now (self .exit) ≡ now (self .entry)) ⌝ };
 }

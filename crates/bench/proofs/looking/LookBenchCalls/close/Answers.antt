@@ -16,9 +16,9 @@ use Rattle.bench.specs.Calls.{Remembers}
 use Rattle.bench.proofs.Ways.{ways}
 use Rattle.bench.proofs.looking.LookBenchCalls.close.Needs as need
 
-same-both : {O : Type 0} (b b′ : Bench O) (v : Sight) (slip : Slip) (r : Result Report (Slip × Refusal)) → Cases r (λ _. Unit {0}) (λ p. (p .0 ≡ slip) × (b′ ≡ b)) → Cases r (λ _. Unit {0}) (λ p. (p .0 ≡ slip) × (_≡_ {A = LookBench O} (record { bench = b′; sight = v }) (record { bench = b; sight = v })))
-same-both b b′ v slip (Ok p) h = tt
-same-both {O} b b′ v slip (Err p) h = (h .0, ap (λ (x : Bench O). record { bench = x; sight = v }) (h .1))
+same-both : {O : Type 0} (b b′ : Bench O) (v : Sight) (r : Result Report (Slip × Refusal)) → Cases r (λ _. Unit {0}) (λ _. b′ ≡ b) → Cases r (λ _. Unit {0}) (λ _. _≡_ {A = LookBench O} (record { bench = b′; sight = v }) (record { bench = b; sight = v }))
+same-both b b′ v (Ok p) h = tt
+same-both {O} b b′ v (Err p) h = ap (λ (x : Bench O). record { bench = x; sight = v }) h
 
 pub returns : need.returns
 returns g c = record {
@@ -28,5 +28,6 @@ returns g c = record {
         bare = q .1;
         sighted = ways (λ (x : Log (g .O·Event .Denot)). x .running ≡ true → Remembers rule (x .run) (c .args .self .now .sight)) (refusal n l (Close (c .args .slip))) (grown l (Close (c .args .slip))) l (λ _ e. let z : _≡_ {A = ℕ} 0 1 = cc in absurd (omega arith)) (λ _ _. s .sighted);
       });
-  same = same-both _ _ _ _ _ (c .close .ensures .same);
+  back = c .close .ensures .back;
+  same = same-both _ _ _ _ (c .close .ensures .same);
 }

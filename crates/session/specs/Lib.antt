@@ -1,0 +1,4 @@
+pub mod Acts
+pub mod Histories
+pub mod Desks
+pub mod Sessions

@@ -1,0 +1,8 @@
+// A session: turns at four new benches, with one pool of slips, and the law of the bench over all of it.
+pub mod desk;
+pub mod perform;
+pub mod script;
+pub mod turn;
+pub use script::Numbers;
+pub use turn::Act;
+pub use turn::Turn;
