@@ -1,2 +1,3 @@
 pub mod Acted
 pub mod Turned
+pub mod Laws

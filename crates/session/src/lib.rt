@@ -4,5 +4,6 @@ pub mod perform;
 pub mod script;
 pub mod turn;
 pub use script::Numbers;
+pub use script::replay;
 pub use turn::Act;
 pub use turn::Turn;
