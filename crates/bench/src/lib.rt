@@ -6,6 +6,7 @@ pub mod plain;
 pub mod slip;
 pub use answers::Refusal;
 pub use answers::RefusalDebug;
+pub use answers::RefusalPartialEq;
 pub use answers::Reply;
 pub use answers::ReplyDebug;
 pub use answers::Report;

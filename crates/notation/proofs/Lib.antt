@@ -1,0 +1,3 @@
+mod Lines
+mod Numerals
+mod Once

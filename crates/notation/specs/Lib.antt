@@ -1,0 +1,4 @@
+pub mod Refusals
+pub mod Digits
+pub mod Sheets
+pub mod Machines
