@@ -1,3 +1,5 @@
+ghost use mathlib.Core.Path.{_≡_};
+ghost use mathlib.Core.List.{[]};
 ghost use Rattle.bench.specs.Log.{fresh};
 ghost use Rattle.bench.specs.Calls.{Stands};
 use crate::answers::Refusal;
@@ -30,6 +32,16 @@ impl<O: Observer> Bench<O> {
             running: false,
             count: 0,
             observer,
+        }
+    }
+
+    fn report(&self) -> Report
+        ensures mark { λ r. ⌜ r .mark ≡ O·Observer .rest (now (self .entry) .observer) [] ⌝ }
+        ensures count { λ r. ⌜ r .count ≡ now (self .entry) .count ⌝ }
+    {
+        Report {
+            mark: self.observer.mark(),
+            count: self.count,
         }
     }
 }
@@ -72,20 +84,14 @@ where
         if !self.running {
             return Err(Refusal::NoRunOpen);
         }
-        Ok(Report {
-            mark: self.observer.mark(),
-            count: self.count,
-        })
+        Ok(self.report())
     }
 
     fn close(&mut self, slip: Slip) -> Result<Report, (Slip, Refusal)> {
         if self.running && slip.bench == self.number && slip.run == self.opened {
             self.running = false;
             write_off(slip);
-            return Ok(Report {
-                mark: self.observer.mark(),
-                count: self.count,
-            });
+            return Ok(self.report());
         }
         Err((slip, Refusal::SlipNotOfRun))
     }

@@ -9,7 +9,7 @@ use Rattle.events.specs.declared.sheet.SheetEvent.the-variants.{Struck, LineEn
 use Rattle.events.specs.declared.sheet.SheetName.{SheetName}
 use Rattle.events.specs.declared.sheet.SheetName.the-variants.{Cap, Num, Dig, Sp, Oth, Eol, Eop}
 
--- The cells of the digits 1 to 9 and 0.
+-- Whether dots are the cell of a digit: 1 to 9, then 0.
 abbrev pub digit : ℕ → Bool
 digit d = eqb d 1 || eqb d 3 || eqb d 9 || eqb d 25 || eqb d 17 || eqb d 11 || eqb d 27 || eqb d 19 || eqb d 10 || eqb d 26
 

@@ -9,15 +9,23 @@ pub trait Kind: Copy {
     const NAMES: u8;
 
     ghost count: { ℕ };
+
     ghost number: { Self → ℕ };
+
     ghost text: { ℕ → List ℕ };
+
     ghost example: { ℕ → Self };
 
     law some: { 1 ≤ count };
+
     law few: { count ≤ 32 };
+
     law below: { (x : Self) → number x < count };
+
     law labels: { (n : ℕ) → n < count → Label (text n) };
+
     law apart: { (m n : ℕ) → m < count → n < count → text m ≡ text n → m ≡ n };
+
     law samples: { (n : ℕ) → n < count → number (example n) ≡ n };
 
     fn total() -> u8

@@ -4,14 +4,12 @@ ghost use Rattle.std.specs.Options.{Cases as BySome};
 ghost use Rattle.events.specs.Rooms.{room};
 ghost use Rattle.events.specs.Machines.{MachineMade, actionOf, machineName, machineNumber, machineNameAt, machineText, machineExample};
 use crate::cell::Cell;
-use crate::cell::CellDebug as _;
-use crate::cell::CellPartialEq as _;
 use crate::kind::Kind;
 use crate::refusal::EventRefusal;
 use crate::word::MachineEvent;
 
-// The names of machine events.
-#[derive(Clone, Copy, PartialEq, Eq, Debug)]
+// The names of machine events, with their numbers.
+#[derive(Clone, Copy)]
 pub enum MachineName {
     Strike = 0,
     Feed = 1,
@@ -21,7 +19,7 @@ pub enum MachineName {
 }
 
 // What the embosser did.
-#[derive(Clone, Copy, PartialEq, Eq, Debug)]
+#[derive(Clone, Copy)]
 pub enum Action {
     Strike(Cell),
     FeedLine,
@@ -55,7 +53,7 @@ impl MachineEvent {
         ensures { λ r. ⌜ r ≡ actionOf self ⌝ }
     {
         match MachineName::of(self) {
-            MachineName::Strike => Action::Strike(Cell { dots: (self.word % 64) as u8 }),
+            MachineName::Strike => Action::Strike(Cell::low(self.word)),
             MachineName::Feed => {
                 if self.word % 2 == 0 {
                     Action::FeedLine
@@ -71,7 +69,7 @@ impl MachineEvent {
 }
 
 impl MachineName {
-    pub fn of(event: MachineEvent) -> MachineName
+    fn of(event: MachineEvent) -> MachineName
         ensures { λ r. ⌜ r ≡ machineName event ⌝ }
     {
         match event.word >> 29 {
@@ -84,7 +82,7 @@ impl MachineName {
     }
 
     // The name with a number, `None` exactly from 5 on.
-    pub fn at(n: u8) -> Option<MachineName>
+    fn at(n: u8) -> Option<MachineName>
         ensures { λ r. ⌜ BySome r (5 ≤ n) (λ s. (n < 5) × (s ≡ machineNameAt n)) ⌝ }
     {
         match n {
@@ -97,13 +95,13 @@ impl MachineName {
         }
     }
 
-    pub fn number(self) -> u8
+    fn number(self) -> u8
         ensures { λ r. ⌜ r ≡ machineNumber self ⌝ }
     {
         self as u8
     }
 
-    pub fn text<'a>(self) -> &'a str
+    fn text<'a>(self) -> &'a str
         ensures { λ r. ⌜ now r ≡ machineText self ⌝ }
     {
         match self {
@@ -126,10 +124,13 @@ impl MachineName {
         }
     }
 
-    pub fn example(self) -> MachineEvent
+    // The event of this name with no other bit set.
+    fn example(self) -> MachineEvent
         ensures { λ r. ⌜ r ≡ machineExample self ⌝ }
     {
-        MachineEvent { word: u32::from(self.number()) << 29 }
+        MachineEvent {
+            word: u32::from(self.number()) << 29,
+        }
     }
 }
 
@@ -137,8 +138,11 @@ pub impl Kind for MachineEvent as MachineKind {
     const NAMES: u8 = 5;
 
     ghost count = { 5 };
+
     ghost number = { λ e. machineNumber (machineName e) };
+
     ghost text = { λ n. machineText (machineNameAt n) };
+
     ghost example = { λ n. machineExample (machineNameAt n) };
 
     fn total() -> u8 {

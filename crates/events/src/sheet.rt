@@ -14,8 +14,8 @@ pub enum SheetEvent {
     SheetEnd,
 }
 
-// The names of sheet events.
-#[derive(Clone, Copy, PartialEq, Eq, Debug)]
+// The names of sheet events, with their numbers.
+#[derive(Clone, Copy)]
 pub enum SheetName {
     Cap = 0,
     Num = 1,
@@ -27,7 +27,7 @@ pub enum SheetName {
 }
 
 impl SheetName {
-    pub fn of(event: SheetEvent) -> SheetName
+    fn of(event: SheetEvent) -> SheetName
         ensures { λ r. ⌜ r ≡ sheetName event ⌝ }
     {
         match event {
@@ -37,7 +37,7 @@ impl SheetName {
         }
     }
 
-    pub fn of_cell(cell: Cell) -> SheetName
+    fn of_cell(cell: Cell) -> SheetName
         ensures { λ r. ⌜ r ≡ cellName (cell .dots) ⌝ }
     {
         match cell.dots() {
@@ -50,7 +50,7 @@ impl SheetName {
     }
 
     // The name with a number, `None` exactly from 7 on.
-    pub fn at(n: u8) -> Option<SheetName>
+    fn at(n: u8) -> Option<SheetName>
         ensures { λ r. ⌜ BySome r (7 ≤ n) (λ s. (n < 7) × (s ≡ sheetNameAt n)) ⌝ }
     {
         match n {
@@ -65,13 +65,13 @@ impl SheetName {
         }
     }
 
-    pub fn number(self) -> u8
+    fn number(self) -> u8
         ensures { λ r. ⌜ r ≡ sheetNumber self ⌝ }
     {
         self as u8
     }
 
-    pub fn text<'a>(self) -> &'a str
+    fn text<'a>(self) -> &'a str
         ensures { λ r. ⌜ now r ≡ sheetText self ⌝ }
     {
         match self {
@@ -85,15 +85,15 @@ impl SheetName {
         }
     }
 
-    pub fn example(self) -> SheetEvent
+    fn example(self) -> SheetEvent
         ensures { λ r. ⌜ r ≡ sheetExample self ⌝ }
     {
         match self {
-            SheetName::Cap => SheetEvent::Struck(Cell { dots: 32 }),
-            SheetName::Num => SheetEvent::Struck(Cell { dots: 60 }),
-            SheetName::Dig => SheetEvent::Struck(Cell { dots: 1 }),
-            SheetName::Sp => SheetEvent::Struck(Cell { dots: 0 }),
-            SheetName::Oth => SheetEvent::Struck(Cell { dots: 2 }),
+            SheetName::Cap => SheetEvent::Struck(Cell::low(32)),
+            SheetName::Num => SheetEvent::Struck(Cell::low(60)),
+            SheetName::Dig => SheetEvent::Struck(Cell::low(1)),
+            SheetName::Sp => SheetEvent::Struck(Cell::low(0)),
+            SheetName::Oth => SheetEvent::Struck(Cell::low(2)),
             SheetName::Eol => SheetEvent::LineEnd,
             SheetName::Eop => SheetEvent::SheetEnd,
         }
@@ -104,8 +104,11 @@ pub impl Kind for SheetEvent as SheetKind {
     const NAMES: u8 = 7;
 
     ghost count = { 7 };
+
     ghost number = { λ e. sheetNumber (sheetName e) };
+
     ghost text = { λ n. sheetText (sheetNameAt n) };
+
     ghost example = { λ n. sheetExample (sheetNameAt n) };
 
     fn total() -> u8 {

@@ -1,5 +1,5 @@
 use mathlib.Core.Path.{_≡_, refl}
-use Prim.Native.Nat.{ℕ, _*_, _%_, _^_}
+use Prim.Native.Nat.{_*_, _%_, _^_}
 use Rattle.events.proofs.Same.{same-event}
 use Rattle.events.specs.Machines.{machineNumber, machineExample}
 use Rattle.events.specs.declared.machine.MachineName.{MachineName}
