@@ -9,8 +9,13 @@ pub use answers::RefusalDebug;
 pub use answers::RefusalPartialEq;
 pub use answers::Reply;
 pub use answers::ReplyDebug;
+pub use answers::ReplyPartialEq;
 pub use answers::Report;
+pub use answers::ReportDebug;
+pub use answers::ReportPartialEq;
 pub use answers::Sight;
+pub use answers::SightDebug;
+pub use answers::SightPartialEq;
 pub use calls::Calls;
 
 pub use looking::LookBench;
