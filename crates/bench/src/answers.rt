@@ -34,7 +34,7 @@ pub enum Sight {
 }
 
 // What a call on a bench is answered: an opened run by the bench's number and the run's.
-#[derive(Clone, Copy, PartialEq, Eq, Debug)]
+#[derive(Clone, Copy)]
 pub enum Reply {
     Opened(u16, u16),
     Taken,

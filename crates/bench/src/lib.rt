@@ -8,8 +8,6 @@ pub use answers::Refusal;
 pub use answers::RefusalDebug;
 pub use answers::RefusalPartialEq;
 pub use answers::Reply;
-pub use answers::ReplyDebug;
-pub use answers::ReplyPartialEq;
 pub use answers::Report;
 pub use answers::ReportDebug;
 pub use answers::ReportPartialEq;

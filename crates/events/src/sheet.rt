@@ -3,11 +3,9 @@ ghost use Prim.Native.Nat.{_<_, _≤_};
 ghost use Rattle.std.specs.Options.{Cases as BySome};
 ghost use Rattle.events.specs.Sheets.{cellName, sheetName, sheetNumber, sheetNameAt, sheetText, sheetExample};
 use crate::cell::Cell;
-use crate::cell::CellDebug as _;
-use crate::cell::CellPartialEq as _;
 use crate::kind::Kind;
 
-#[derive(Clone, Copy, PartialEq, Eq, Debug)]
+#[derive(Clone, Copy)]
 pub enum SheetEvent {
     Struck(Cell),
     LineEnd,

@@ -8,27 +8,23 @@ use bench::Calls;
 use bench::LookBench;
 use bench::LookBenchCalls;
 use bench::Refusal;
-use bench::RefusalDebug;
-use bench::RefusalPartialEq;
 use bench::Sight;
 use events::SheetEvent;
 use notation::LineRefusal;
-use notation::LineRefusalDebug;
-use notation::LineRefusalPartialEq;
 use notation::Notation;
 use notation::SheetNotation;
 use observers::FarSighted;
 use observers::Observer;
 
 // The line of the sheets that is being embossed: its number from 1, and its cells so far.
-#[derive(Clone, Copy, PartialEq, Eq, Debug)]
+#[derive(Clone, Copy)]
 pub struct Row {
     pub number: u32,
     pub cells: u32,
 }
 
 // What came of a line of input whose event was taken.
-#[derive(Clone, Copy, PartialEq, Eq, Debug)]
+#[derive(Clone, Copy)]
 pub enum Step {
     Struck,
     RowClosed(Row),
@@ -36,7 +32,7 @@ pub enum Step {
 }
 
 // Why no event was taken.
-#[derive(Clone, Copy, PartialEq, Eq, Debug)]
+#[derive(Clone, Copy)]
 pub enum TakeRefusal {
     Line(LineRefusal),
     Bench(Refusal),
