@@ -14,7 +14,7 @@ use Rattle.observers.specs.Foresight.{Every, One, Foresees}
 use Rattle.bench.specs.declared.answers.Sight.{Sight}
 use Rattle.bench.specs.declared.answers.Sight.the-variants.{Open, Lost, Safe}
 use Rattle.bench.specs.Sight.{beyond, LostAt, SafeAt, Sees}
-use Rattle.bench.specs.Calls.{Remembers, sightAt}
+use Rattle.bench.specs.Calls.{Remembers, sightAt, SeenAfter}
 
 differ : true ≡ false → ⊥
 differ e = let z : _≡_ {A = ℕ} 0 1 = cc in omega arith
@@ -65,6 +65,9 @@ module _ {E : Type 0} (rule : List E → Bool) (run : List E) where
       ((p .0 .0, at (p .0 .0) ∙ p .0 .1), (p .1 .0, at (p .1 .0) ∙ p .1 .1)))
       (cases-lt m (length run))
 
+  pub seen-now : (rest : List E → Bool) (k : ℕ) (s : Sight) → k ≡ length run → ((m : ℕ) → m < length run → One (beyond rule run m) true × One (beyond rule run m) false) → ((t : List E) → rest t ≡ rule (run ++ t)) → SeenAfter rest k s → Remembers rule run s
+  seen-now rest k s e w is p = subst (λ (v : Sight). Remembers rule run v) (sym (p .2)) (arrive rest (p .0) k e w is (p .1))
+
 -- one event more
 module _ {E : Type 0} (rule : List E → Bool) (run : List E) (x : E) where
   again : (m : ℕ) → m ≤ length run → (t : List E) → beyond rule (run ++ (x ∷ [])) m t ≡ beyond rule run m t
@@ -83,3 +86,9 @@ module _ {E : Type 0} (rule : List E → Bool) (run : List E) (x : E) where
   lasts Open closed w = absurd (closed refl)
   lasts (Lost n) closed w = record { reached = omega (arith, longer, w .reached); never = λ t. again n (w .reached) t ∙ w .never t; first = λ m h. let q = w .first m h in (q .0, again m (omega (arith, w .reached)) (q .0) ∙ q .1) }
   lasts (Safe n) closed w = record { reached = omega (arith, longer, w .reached); always = λ t. again n (w .reached) t ∙ w .always t; first = λ m h. let q = w .first m h in (q .0, again m (omega (arith, w .reached)) (q .0) ∙ q .1) }
+
+  -- the outlook is followed while the run is open
+  pub followed : (rest : List E → Bool) (k : ℕ) (s v : Sight) → k ≡ length (run ++ (x ∷ [])) → ((t : List E) → rest t ≡ rule ((run ++ (x ∷ [])) ++ t)) → Remembers rule run s → (s ≡ Open → SeenAfter rest k v) → ((s ≡ Open → ⊥) → v ≡ s) → Remembers rule (run ++ (x ∷ [])) v
+  followed rest k Open v e is w asked kept = seen-now rule (run ++ (x ∷ [])) rest k v e (open-before w) is (asked refl)
+  followed rest k (Lost n) v e is w asked kept = let c : Lost n ≡ Open → ⊥ = λ p. let z : _≡_ {A = ℕ} 0 1 = cc in omega arith in subst (λ (y : Sight). Remembers rule (run ++ (x ∷ [])) y) (sym (kept c)) (lasts (Lost n) c w)
+  followed rest k (Safe n) v e is w asked kept = let c : Safe n ≡ Open → ⊥ = λ p. let z : _≡_ {A = ℕ} 0 1 = cc in omega arith in subst (λ (y : Sight). Remembers rule (run ++ (x ∷ [])) y) (sym (kept c)) (lasts (Safe n) c w)

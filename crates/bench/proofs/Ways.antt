@@ -11,7 +11,7 @@ use Rattle.std.specs.declared.option.Option.the-variants.{Some, None}
 use Rattle.bench.specs.declared.answers.Sight.{Sight}
 use Rattle.bench.specs.declared.answers.Reply.{Reply}
 use Rattle.bench.specs.declared.answers.Reply.the-variants.{Opened, Taken, Looked, Refused}
-use Rattle.bench.specs.Log.{Log, Call, Open, Take, Look, refusal, grown, unless, after}
+use Rattle.bench.specs.Log.{Log, Call, Open, Take, Ask, Look, Close, refusal, grown, unless, after}
 use Rattle.bench.specs.Sight.{Sees}
 use Rattle.bench.specs.Law.{SettledCall, Answered}
 
@@ -23,11 +23,19 @@ ways P (Some r) x y f g = g r refl
 module _ {E : Type 0} (n : ℕ) (rule : List E → Bool) (l : Log E) where
   -- the log of a call that is not refused grows
   pub grows : (c : Call E) → refusal n l c ≡ None → after n l c ≡ grown l c
-  grows c e = rw e
+  grows Open e = rw e
+  grows (Take x) e = rw e
+  grows Ask e = refl
+  grows Look e = refl
+  grows (Close s) e = rw e
 
   -- a call that is refused leaves the log
   pub stays : (c : Call E) (x : Refusal) → refusal n l c ≡ Some x → after n l c ≡ l
-  stays c x e = rw e
+  stays Open x e = rw e
+  stays (Take y) x e = rw e
+  stays Ask x e = refl
+  stays Look x e = refl
+  stays (Close s) x e = rw e
 
   pub taken : (e : E) → refusal n l (Take e) ≡ None → Answered n rule l (Take e) Taken
   taken e free = record {

@@ -17,7 +17,7 @@ use Rattle.bench.specs.declared.plain.Bench.{Bench}
 use Rattle.bench.specs.declared.looking.LookBench.{LookBench}
 use Rattle.observers.specs.declared.observer.Outlook.{Outlook}
 use Rattle.observers.specs.declared.observer.Outlook.the-variants.{Lost as outlookLost, Safe as outlookSafe, Open as outlookOpen}
-use Rattle.observers.specs.Foresight.{One}
+use Rattle.observers.specs.Foresight.{One, Foresees}
 use Rattle.bench.specs.Log.{Log, Call, after}
 use Rattle.bench.specs.Sight.{beyond, LostAt, SafeAt}
 use Rattle.bench.specs.Law.{Answered}
@@ -42,6 +42,10 @@ abbrev pub sightAt : Outlook → ℕ → Sight
 sightAt outlookLost n = Lost n
 sightAt outlookSafe n = Safe n
 sightAt outlookOpen n = Open
+
+-- what is remembered once the outlook of this rest was asked after n events
+abbrev pub SeenAfter : {E : Type 0} → (List E → Bool) → ℕ → Sight → Type 0
+SeenAfter rest n s = (o : Outlook) × Foresees rest o × (s ≡ sightAt o n)
 
 -- so does a bench with look, which remembers what can be seen of the open run
 pub record LookStands {E O : Type 0} (rules rests : O → List E → Bool) (n : ℕ) (rule : List E → Bool) (b : LookBench O) (l : Log E) : Type 0 where

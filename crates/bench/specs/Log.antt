@@ -55,9 +55,13 @@ abbrev pub unless : {A : Type 0} → Option Refusal → A → A → A
 unless None x y = x
 unless (Some r) x y = y
 
--- the log after any call: one that is refused leaves it
+-- the log after any call: ask, look and what is refused leave it
 abbrev pub after : {E : Type 0} → ℕ → Log E → Call E → Log E
-after n l c = unless (refusal n l c) (grown l c) l
+after n l Open = unless (refusal n l Open) (grown l Open) l
+after n l (Take e) = unless (refusal n l (Take e)) (grown l (Take e)) l
+after n l Ask = l
+after n l Look = l
+after n l (Close s) = unless (refusal n l (Close s)) (grown l (Close s)) l
 
 -- a call and its answer
 pub record Exchange (E : Type 0) : Type 0 where

@@ -1,7 +1,7 @@
 ghost use mathlib.Core.Path.{_≡_};
 ghost use Rattle.bench.specs.Log.{fresh};
 ghost use Rattle.bench.specs.Log.{Look as looking};
-ghost use Rattle.bench.specs.Calls.{LookStands, Lawful, lookReply, sightAt};
+ghost use Rattle.bench.specs.Calls.{LookStands, Lawful, lookReply, sightAt, SeenAfter};
 use crate::answers::Refusal;
 use crate::answers::Report;
 use crate::answers::Sight;
@@ -47,6 +47,17 @@ impl<O: FarSighted> LookBench<O> {
         }
         Ok(self.sight)
     }
+
+    // While the run is open to both, its outlook is asked again.
+    fn follow(&mut self)
+        ensures bench { λ _. ⌜ now (self .exit) .bench ≡ now (self .entry) .bench ⌝ }
+        ensures asked { λ _. ⌜ (now (self .entry) .sight ≡ Sight.Open → SeenAfter (O·Observer .rest (now (self .entry) .bench .observer)) (now (self .entry) .bench .count) (now (self .exit) .sight)) ⌝ }
+        ensures kept { λ _. ⌜ ((now (self .entry) .sight ≡ Sight.Open → ⊥) → now (self .exit) .sight ≡ now (self .entry) .sight) ⌝ }
+    {
+        if let Sight::Open = self.sight {
+            self.sight = sight_at(self.bench.observer.outlook(), self.bench.count);
+        }
+    }
 }
 
 pub impl<O: FarSighted> Calls for LookBench<O> as LookBenchCalls
@@ -61,7 +72,8 @@ where
         match self.bench.open() {
             Err(refusal) => Err(refusal),
             Ok(slip) => {
-                self.sight = sight_at(self.bench.observer.outlook(), 0);
+                self.sight = Sight::Open;
+                self.follow();
                 Ok(slip)
             }
         }
@@ -71,9 +83,7 @@ where
         if let Err(refusal) = self.bench.take(e) {
             return Err(refusal);
         }
-        if let Sight::Open = self.sight {
-            self.sight = sight_at(self.bench.observer.outlook(), self.bench.count);
-        }
+        self.follow();
         Ok(())
     }
 

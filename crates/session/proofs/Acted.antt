@@ -52,11 +52,11 @@ module _ {E B : Type 0} (S : ℕ → (List E → Bool) → B → Log E → Type 
   pub act-open : (o : Result Slip Refusal) → a ≡ opens → r ≡ openReply o → h₂ ≡ h ++ given o → Lawful S b Open (openReply o) b′ → ActLaw S b h a (Some r) b′ h₂
   act-open o e f g law = moved S b h b′ a opens (Some r) (Some (openReply o)) h₂ (h ++ given o) e (ap Some f) g (by-open S b h b′ o law)
 
-  pub act-take : (x : E) → a ≡ takes x → h₂ ≡ h → Lawful S b (Take x) r b′ → ActLaw S b h a (Some r) b′ h₂
-  act-take x e g law = moved S b h b′ a (takes x) (Some r) (Some r) h₂ h e refl g (one-call S b h b′ (Take x) r (takes x) h (took x r) law)
+  pub act-take : (x : E) (q : Reply) → a ≡ takes x → r ≡ q → h₂ ≡ h → Lawful S b (Take x) q b′ → ActLaw S b h a (Some r) b′ h₂
+  act-take x q e f g law = moved S b h b′ a (takes x) (Some r) (Some q) h₂ h e (ap Some f) g (one-call S b h b′ (Take x) q (takes x) h (took x q) law)
 
-  pub act-ask : a ≡ asks → h₂ ≡ h → Lawful S b Ask r b′ → ActLaw S b h a (Some r) b′ h₂
-  act-ask e g law = moved S b h b′ a asks (Some r) (Some r) h₂ h e refl g (one-call S b h b′ Ask r asks h (asked r) law)
+  pub act-ask : (q : Reply) → a ≡ asks → r ≡ q → h₂ ≡ h → Lawful S b Ask q b′ → ActLaw S b h a (Some r) b′ h₂
+  act-ask q e f g law = moved S b h b′ a asks (Some r) (Some q) h₂ h e (ap Some f) g (one-call S b h b′ Ask q asks h (asked q) law)
 
   pub act-close : (k : ℕ) (s : Slip) (o : Result Report (Slip × Refusal)) → a ≡ closes k → k < length h → s ≡ getD h k s → r ≡ closeReply o → h₂ ≡ restored (removed h k) k o → Cases o (λ _. Unit {0}) (λ p. p .0 ≡ s) → Lawful S b (Close s) (closeReply o) b′ → ActLaw S b h a (Some r) b′ h₂
   act-close k s o e lt read f g back law = moved S b h b′ a (closes k) (Some r) (Some (closeReply o)) h₂ _ e (ap Some f) g (by-close S b h b′ k s o (nth-read h (length h) k s refl lt read) back law)

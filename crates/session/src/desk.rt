@@ -8,6 +8,7 @@ use bench::LookBench;
 use bench::LookBenchCalls;
 use bench::Reply;
 use bench::Slip;
+use crate::perform::looked;
 use crate::perform::perform;
 use crate::turn::Turn;
 use events::SheetEvent;
@@ -44,10 +45,7 @@ where
     {
         match turn {
             Turn::Watch(act) => perform(&mut self.watch, held, act),
-            Turn::Look => match self.watch.look() {
-                Ok(sight) => Some(Reply::Looked(sight)),
-                Err(refusal) => Some(Reply::Refused(refusal)),
-            },
+            Turn::Look => Some(looked(self.watch.look())),
             Turn::Plain(act) => perform(&mut self.plain, held, act),
             Turn::First(act) => perform(&mut self.first, held, act),
             Turn::Second(act) => perform(&mut self.second, held, act),

@@ -2,15 +2,43 @@ ghost use mathlib.Core.Path.{_≡_};
 ghost use mathlib.Core.List.{_++_};
 ghost use Prim.Native.Nat.{_+_, _<_, _≤_};
 ghost use Rattle.std.specs.Of.Vec.{vec-items, vec-len, vec-cap};
-ghost use Rattle.bench.specs.Calls.{openReply, closeReply};
+ghost use Rattle.bench.specs.Calls.{openReply, takeReply, askReply, lookReply, closeReply};
 ghost use Rattle.session.specs.Acts.{ActLaw, given, restored};
 use bench::Calls;
 use bench::Refusal;
 use bench::Reply;
 use bench::Report;
+use bench::Sight;
 use bench::Slip;
 use bench::write_off;
 use crate::turn::Act;
+
+fn taken(took: Result<(), Refusal>) -> Reply
+    ensures { λ r. ⌜ r ≡ takeReply took ⌝ }
+{
+    match took {
+        Ok(()) => Reply::Taken,
+        Err(refusal) => Reply::Refused(refusal),
+    }
+}
+
+fn told(asked: Result<Report, Refusal>) -> Reply
+    ensures { λ r. ⌜ r ≡ askReply asked ⌝ }
+{
+    match asked {
+        Ok(report) => Reply::Told(report),
+        Err(refusal) => Reply::Refused(refusal),
+    }
+}
+
+pub(crate) fn looked(seen: Result<Sight, Refusal>) -> Reply
+    ensures { λ r. ⌜ r ≡ lookReply seen ⌝ }
+{
+    match seen {
+        Ok(sight) => Reply::Looked(sight),
+        Err(refusal) => Reply::Refused(refusal),
+    }
+}
 
 // A slip that was given is held last.
 fn keep(held: &mut Vec<Slip>, opened: Result<Slip, Refusal>) -> Reply
@@ -63,14 +91,8 @@ pub(crate) fn perform<B: Calls>(
 {
     match act {
         Act::Open => Some(keep(held, bench.open())),
-        Act::Take(e) => match bench.take(e) {
-            Ok(_) => Some(Reply::Taken),
-            Err(refusal) => Some(Reply::Refused(refusal)),
-        },
-        Act::Ask => match bench.ask() {
-            Ok(report) => Some(Reply::Told(report)),
-            Err(refusal) => Some(Reply::Refused(refusal)),
-        },
+        Act::Take(e) => Some(taken(bench.take(e))),
+        Act::Ask => Some(told(bench.ask())),
         Act::Close(k) => {
             if k >= held.len() {
                 return None;

@@ -1,4 +1,5 @@
 ghost use mathlib.Core.Path.{_≡_};
+ghost use lib.Dec.{ltb};
 ghost use Rattle.sheets.specs.Lines.{fits};
 ghost use Rattle.sheets.specs.Rulers.{RulerMade, rulerNumber};
 use crate::ruler::Ruler;
@@ -30,6 +31,13 @@ impl Ruler {
         }
         Ok(Ruler { width, cells: 0 })
     }
+
+    // Whether a line was too long.
+    fn over(&self) -> bool
+        ensures { λ r. ⌜ r ≡ ltb (now (self .entry) .width) (now (self .entry) .cells) ⌝ }
+    {
+        self.cells > self.width
+    }
 }
 
 pub impl Observer for Ruler as RulerObserver {
@@ -40,7 +48,7 @@ pub impl Observer for Ruler as RulerObserver {
     ghost rest = { λ s t. fits (s .width) (s .cells) t };
 
     fn take(&mut self, e: SheetEvent) {
-        if self.cells <= self.width {
+        if !self.over() {
             self.cells = match e {
                 SheetEvent::Struck(_) => self.cells + 1,
                 SheetEvent::LineEnd => 0,
@@ -50,7 +58,7 @@ pub impl Observer for Ruler as RulerObserver {
     }
 
     fn mark(&self) -> bool {
-        self.cells <= self.width
+        !self.over()
     }
 
     fn restart(&mut self) {
@@ -60,10 +68,10 @@ pub impl Observer for Ruler as RulerObserver {
 
 pub impl FarSighted for Ruler as RulerFarSighted {
     fn outlook(&self) -> Outlook {
-        if self.cells <= self.width {
-            Outlook::Open
-        } else {
+        if self.over() {
             Outlook::Lost
+        } else {
+            Outlook::Open
         }
     }
 }

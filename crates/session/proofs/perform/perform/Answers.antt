@@ -5,6 +5,7 @@ use Prim.Native.Nat.{_<_, _≤_}
 use lib.ListN.{length}
 use Rattle.std.specs.Of.Vec.{vec-items}
 use Rattle.bench.specs.declared.slip.Slip.{Slip}
+use Rattle.bench.specs.Calls.{takeReply, askReply}
 use Rattle.session.specs.Acts.{restored}
 use Rattle.session.proofs.Acted.{act-open, act-take, act-ask, act-close, act-none}
 use Rattle.session.proofs.perform.perform.Needs as need
@@ -16,30 +17,16 @@ returns-in-Open g c = record {
   capacity = c .keep .ensures .capacity;
 }
 
-pub returns-in-Ok : need.returns-in-Ok
-returns-in-Ok g c = record {
-  law = act-take (g .B·Calls .stands) _ _ _ _ _ _ _ (c .in-Take .is) refl (c .in-Ok .ensures tt .law);
+pub returns-in-Take : need.returns-in-Take
+returns-in-Take g c = record {
+  law = act-take (g .B·Calls .stands) _ _ _ _ _ _ (c .in-Take .e) (takeReply (c .take .result)) (c .in-Take .is) (c .taken .ensures) refl (c .take .ensures .law);
   len = omega arith;
   capacity = refl;
 }
 
-pub returns-in-Err : need.returns-in-Err
-returns-in-Err g c = record {
-  law = act-take (g .B·Calls .stands) _ _ _ _ _ _ _ (c .in-Take .is) refl (c .in-Err .ensures tt .law);
-  len = omega arith;
-  capacity = refl;
-}
-
-pub returns-in-Ok-ask : need.returns-in-Ok-ask
-returns-in-Ok-ask g c = record {
-  law = act-ask (g .B·Calls .stands) _ _ _ _ _ _ (c .in-Ask .is) refl (c .in-Ok-ask .ensures tt);
-  len = omega arith;
-  capacity = refl;
-}
-
-pub returns-in-Err-ask : need.returns-in-Err-ask
-returns-in-Err-ask g c = record {
-  law = act-ask (g .B·Calls .stands) _ _ _ _ _ _ (c .in-Ask .is) refl (c .in-Err-ask .ensures tt);
+pub returns-in-Ask : need.returns-in-Ask
+returns-in-Ask g c = record {
+  law = act-ask (g .B·Calls .stands) _ _ _ _ _ _ (askReply (c .ask .result)) (c .in-Ask .is) (c .told .ensures) refl (c .ask .ensures);
   len = omega arith;
   capacity = refl;
 }

@@ -4,9 +4,9 @@ use native.Mathlib.Omega.{arith}
 use Rattle.std.specs.declared.option.Option.the-variants.{Some}
 use Rattle.std.specs.Of.Vec.{vec-items}
 use Rattle.bench.specs.declared.slip.Slip.{Slip}
-use Rattle.bench.specs.declared.answers.Reply.the-variants.{Looked, Refused}
+use Rattle.bench.specs.declared.answers.Reply.{Reply}
 use Rattle.bench.specs.Log.{Look}
-use Rattle.bench.specs.Calls.{LookStands}
+use Rattle.bench.specs.Calls.{LookStands, Lawful}
 use Rattle.session.specs.declared.turn.Turn.{Turn}
 use Rattle.session.specs.Acts.{exchange, Done}
 use Rattle.session.specs.Histories.{Histories, Noted, watched, looked, plainly, firstly, secondly}
@@ -73,24 +73,15 @@ returns-in-Second g c =
       capacity = c .perform-in-Second .ensures .capacity;
     }
 
-pub returns-in-Ok : need.returns-in-Ok
-returns-in-Ok g c = record {
-  law = λ s h e st.
-      (record { watch = h .watch ++ exchange Look (Looked (c .in-Ok .sight)); plain = h .plain; first = h .first; second = h .second; held = h .held },
-      subst (λ (u : Turn (g .L·Event .Denot) (g .P·Event .Denot)). Noted h u (Some (Looked (c .in-Ok .sight))) (record { watch = h .watch ++ exchange Look (Looked (c .in-Ok .sight)); plain = h .plain; first = h .first; second = h .second; held = h .held })) (sym (c .in-Look .is)) (looked (Looked (c .in-Ok .sight))),
-      record { watching = stands-more (LookStands (g .L·Observer .rule) (g .L·Observer .rest)) (s .watch) (c .args .self .now .watch) (c .args .self .now .watch) (h .watch) (exchange Look (Looked (c .in-Ok .sight))) (st .watching) (one-goes (LookStands (g .L·Observer .rule) (g .L·Observer .rest)) (c .args .self .now .watch) (c .args .self .now .watch) Look (Looked (c .in-Ok .sight)) (c .in-Ok .ensures tt)); plain = st .plain; first = st .first; second = st .second },
-      e);
-  len = omega arith;
-  capacity = refl;
-}
-
-pub returns-in-Err : need.returns-in-Err
-returns-in-Err g c = record {
-  law = λ s h e st.
-      (record { watch = h .watch ++ exchange Look (Refused (c .in-Err .refusal)); plain = h .plain; first = h .first; second = h .second; held = h .held },
-      subst (λ (u : Turn (g .L·Event .Denot) (g .P·Event .Denot)). Noted h u (Some (Refused (c .in-Err .refusal))) (record { watch = h .watch ++ exchange Look (Refused (c .in-Err .refusal)); plain = h .plain; first = h .first; second = h .second; held = h .held })) (sym (c .in-Look .is)) (looked (Refused (c .in-Err .refusal))),
-      record { watching = stands-more (LookStands (g .L·Observer .rule) (g .L·Observer .rest)) (s .watch) (c .args .self .now .watch) (c .args .self .now .watch) (h .watch) (exchange Look (Refused (c .in-Err .refusal))) (st .watching) (one-goes (LookStands (g .L·Observer .rule) (g .L·Observer .rest)) (c .args .self .now .watch) (c .args .self .now .watch) Look (Refused (c .in-Err .refusal)) (c .in-Err .ensures tt)); plain = st .plain; first = st .first; second = st .second },
-      e);
-  len = omega arith;
-  capacity = refl;
-}
+pub returns-in-Look : need.returns-in-Look
+returns-in-Look g c =
+    let r = c .looked .result in
+    record {
+      law = λ s h e st.
+          (record { watch = h .watch ++ exchange Look r; plain = h .plain; first = h .first; second = h .second; held = h .held },
+          subst (λ (u : Turn (g .L·Event .Denot) (g .P·Event .Denot)). Noted h u (Some r) (record { watch = h .watch ++ exchange Look r; plain = h .plain; first = h .first; second = h .second; held = h .held })) (sym (c .in-Look .is)) (looked r),
+          record { watching = stands-more (LookStands (g .L·Observer .rule) (g .L·Observer .rest)) (s .watch) (c .args .self .now .watch) (c .args .self .now .watch) (h .watch) (exchange Look r) (st .watching) (one-goes (LookStands (g .L·Observer .rule) (g .L·Observer .rest)) (c .args .self .now .watch) (c .args .self .now .watch) Look r (subst (λ (q : Reply). Lawful (LookStands (g .L·Observer .rule) (g .L·Observer .rest)) (c .args .self .now .watch) Look q (c .args .self .now .watch)) (sym (c .looked .ensures)) (c .look .ensures))); plain = st .plain; first = st .first; second = st .second },
+          e);
+      len = omega arith;
+      capacity = refl;
+    }
