@@ -4,6 +4,7 @@ pub mod calls;
 pub mod looking;
 pub mod plain;
 pub mod slip;
+
 pub use answers::Refusal;
 pub use answers::RefusalDebug;
 pub use answers::RefusalPartialEq;
@@ -15,7 +16,6 @@ pub use answers::Sight;
 pub use answers::SightDebug;
 pub use answers::SightPartialEq;
 pub use calls::Calls;
-
 pub use looking::LookBench;
 pub use looking::LookBenchCalls;
 pub use plain::Bench;

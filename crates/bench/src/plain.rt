@@ -10,6 +10,7 @@ use crate::slip::write_off;
 use observers::Observer;
 
 const MOST_RUNS: u16 = 65_535;
+
 const MOST_EVENTS: u32 = 1_000_000;
 
 // The count is of the events of the run that was opened last.

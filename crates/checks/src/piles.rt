@@ -206,7 +206,13 @@ fn a_hammer_port_over_a_ruler() -> Result<(), Fail> {
             match last {
                 Ok(report) => {
                     check(right)?;
-                    check_eq(report, Report { mark: false, count: 8 })
+                    check_eq(
+                        report,
+                        Report {
+                            mark: false,
+                            count: 8,
+                        },
+                    )
                 }
                 Err((slip, _)) => {
                     write_off(slip);
@@ -248,5 +254,11 @@ fn a_run_takes_a_million_events() -> Result<(), Fail> {
         }
     }
     check_eq(taken, 1_000_000)?;
-    check_eq(bench.ask(), Ok(Report { mark: true, count: 1_000_000 }))
+    check_eq(
+        bench.ask(),
+        Ok(Report {
+            mark: true,
+            count: 1_000_000,
+        }),
+    )
 }

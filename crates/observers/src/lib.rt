@@ -3,6 +3,7 @@ pub mod both;
 pub mod complement;
 pub mod observer;
 pub mod port;
+
 pub use both::Both;
 pub use both::BothObserver;
 pub use complement::Complement;

@@ -7,6 +7,7 @@ use crate::observer::Observer;
 // A turning of events: each becomes one event of the kind below, or none.
 pub trait Turning {
     type Above;
+
     type Under;
 
     ghost turning: { Self → Self·Above → Option Self·Under };

@@ -3,14 +3,14 @@ ghost use Prim.Native.Nat.{_+_, _<_, _≤_};
 ghost use Rattle.std.specs.Of.Vec.{vec-items, vec-len, vec-cap};
 ghost use Rattle.bench.specs.Calls.{LookStands};
 ghost use Rattle.session.specs.Desks.{TurnLaw};
+use crate::perform::looked;
+use crate::perform::perform;
+use crate::turn::Turn;
 use bench::Calls;
 use bench::LookBench;
 use bench::LookBenchCalls;
 use bench::Reply;
 use bench::Slip;
-use crate::perform::looked;
-use crate::perform::perform;
-use crate::turn::Turn;
 use events::SheetEvent;
 use observers::FarSighted;
 

@@ -1,8 +1,9 @@
 // A session: turns at four new benches, with one pool of slips, and the law of the bench over all of it.
-pub mod desk;
-pub mod perform;
+mod desk;
+mod perform;
 pub mod script;
 pub mod turn;
+
 pub use script::Numbers;
 pub use script::replay;
 pub use turn::Act;

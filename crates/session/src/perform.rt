@@ -4,6 +4,7 @@ ghost use Prim.Native.Nat.{_+_, _<_, _≤_};
 ghost use Rattle.std.specs.Of.Vec.{vec-items, vec-len, vec-cap};
 ghost use Rattle.bench.specs.Calls.{openReply, takeReply, askReply, lookReply, closeReply};
 ghost use Rattle.session.specs.Acts.{ActLaw, given, restored};
+use crate::turn::Act;
 use bench::Calls;
 use bench::Refusal;
 use bench::Reply;
@@ -11,7 +12,6 @@ use bench::Report;
 use bench::Sight;
 use bench::Slip;
 use bench::write_off;
-use crate::turn::Act;
 
 fn taken(took: Result<(), Refusal>) -> Reply
     ensures { λ r. ⌜ r ≡ takeReply took ⌝ }

@@ -2,6 +2,7 @@
 pub mod measure;
 pub mod ports;
 pub mod ruler;
+
 pub use measure::RulerFarSighted;
 pub use measure::RulerObserver;
 pub use measure::RulerRefusal;

@@ -13,6 +13,7 @@ pub struct Flow;
 
 pub impl Turning for Flow as FlowTurning {
     type Above = SheetEvent;
+
     type Under = SheetEvent;
 
     ghost turning = { λ _ e. flowing e };
@@ -32,6 +33,7 @@ pub struct Hammer;
 
 pub impl Turning for Hammer as HammerTurning {
     type Above = MachineEvent;
+
     type Under = SheetEvent;
 
     ghost turning = { λ _ e. hammered e };
@@ -49,6 +51,7 @@ pub impl Turning for Hammer as HammerTurning {
 }
 
 pub type FlowPort<O> = Port<Flow, O>;
+
 pub type HammerPort<O> = Port<Hammer, O>;
 
 pub fn flow_port<O>(below: O) -> Port<Flow, O>

@@ -57,11 +57,12 @@ pub loop-turn-holds : need.loop-turn-holds
 loop-turn-holds g c =
     let n = ap length (c .into-iter-turn-iterator .ensures .becomes .0) in
     let none : vec-items (c .reserve .last .self) ≡ [] = c .reserve .ensures .items ∙ c .clear .ensures .items in
-    let brought = vec-items (c .reserve-2 .last .self) in
-    (refl,
-    omega (arith, c .in-Continue-reserve-2 .ensures tt .cases, c .len-2 .ensures, c .args .turns .ok .0, n),
-    omega (arith, c .in-Continue-reserve .ensures tt .cases, c .len .ensures, c .args .turns .ok .0, n),
-    λ s st. (begun brought, nothing-yet brought _ none, st, refl))
+    let brought = vec-items (c .reserve-2 .last .self) in (
+      refl,
+      omega (arith, c .in-Continue-reserve-2 .ensures tt .cases, c .len-2 .ensures, c .args .turns .ok .0, n),
+      omega (arith, c .in-Continue-reserve .ensures tt .cases, c .len .ensures, c .args .turns .ok .0, n),
+      λ s st. (begun brought, nothing-yet brought _ none, st, refl),
+    )
 
 pub loop-turn-again : need.loop-turn-again
 loop-turn-again g c =
@@ -70,15 +71,16 @@ loop-turn-again g c =
     let inv = c .loop-turn .inv in
     let r = c .turn-reply .result in
     let step = c .in-Some .ensures tt .steps .0 in
-    let pushed = c .push-reserved .ensures .items in
-    (append-assoc past (u ∷ []) _ ∙ ap (λ (x : List (Turn (g .L·Event .Denot) (g .O·Event .Denot))). past ++ x) (sym step) ∙ inv .0,
-    omega (arith, c .turn-reply .ensures .len, c .turn-reply .ensures .capacity, inv .1, ap length step),
-    omega (arith, c .push-reserved .ensures .len, c .push-reserved .ensures .capacity, inv .2, ap length step),
-    λ s st.
-        let brought = vec-items (c .reserve-2 .last .self) in
-        let p = inv .3 s st in
-        let q = c .turn-reply .ensures .law s (p .0) (p .3) (p .2) in
-        (q .0, subst (λ (x : List (Option Reply)). Performed (begun brought) (past ++ (u ∷ [])) x (q .0)) (sym pushed) (performed-more (q .0) u r (p .1) (q .1)), q .2, q .3))
+    let pushed = c .push-reserved .ensures .items in (
+      append-assoc past (u ∷ []) _ ∙ ap (λ (x : List (Turn (g .L·Event .Denot) (g .O·Event .Denot))). past ++ x) (sym step) ∙ inv .0,
+      omega (arith, c .turn-reply .ensures .len, c .turn-reply .ensures .capacity, inv .1, ap length step),
+      omega (arith, c .push-reserved .ensures .len, c .push-reserved .ensures .capacity, inv .2, ap length step),
+      λ s st.
+          let brought = vec-items (c .reserve-2 .last .self) in
+          let p = inv .3 s st in
+          let q = c .turn-reply .ensures .law s (p .0) (p .3) (p .2) in
+          (q .0, subst (λ (x : List (Option Reply)). Performed (begun brought) (past ++ (u ∷ [])) x (q .0)) (sym pushed) (performed-more (q .0) u r (p .1) (q .1)), q .2, q .3),
+    )
 
 pub returns : need.returns
 returns g c =

@@ -23,11 +23,13 @@ same-both {O} b b′ v (Err p) h = ap (λ (x : Bench O). record { bench = x; sig
 pub returns : need.returns
 returns g c = record {
   law = λ n rule l s.
-      let q = c .close .ensures .law n rule l (s .bare) in
-      (q .0, record {
-        bare = q .1;
-        sighted = ways (λ (x : Log (g .O·Event .Denot)). x .running ≡ true → Remembers rule (x .run) (c .args .self .now .sight)) (refusal n l (Close (c .args .slip))) (grown l (Close (c .args .slip))) l (λ _ e. let z : _≡_ {A = ℕ} 0 1 = cc in absurd (omega arith)) (λ _ _. s .sighted);
-      });
+      let q = c .close .ensures .law n rule l (s .bare) in (
+        q .0,
+        record {
+          bare = q .1;
+          sighted = ways (λ (x : Log (g .O·Event .Denot)). x .running ≡ true → Remembers rule (x .run) (c .args .self .now .sight)) (refusal n l (Close (c .args .slip))) (grown l (Close (c .args .slip))) l (λ _ e. let z : _≡_ {A = ℕ} 0 1 = cc in absurd (omega arith)) (λ _ _. s .sighted);
+        },
+      );
   back = c .close .ensures .back;
   same = same-both _ _ _ _ (c .close .ensures .same);
 }

@@ -19,15 +19,16 @@ returns g c = record {
       let b = c .args .self .now in
       let on : l .running ≡ true = sym (s .running-is) ∙ c .if-not-self .left in
       let room : ltb (length (l .run)) 1000000 ≡ true = grind (arith, tells) in
-      let free : refusal n l (Take e) ≡ None = simp (on, room) in
-      (taken n rule l e free,
-      subst (λ (x : Log (g .O·Event .Denot)). Stands (g .O·Observer .rule) (g .O·Observer .rest) n rule (record { number = b .number; opened = b .opened; running = b .running; count = b .count + 1; observer = c .take .last .self }) x) (sym (grows n rule l (Take e) free)) (record {
-        number-is = s .number-is;
-        rule-is = c .take .ensures .rule ∙ s .rule-is;
-        opened-is = s .opened-is;
-        running-is = s .running-is;
-        counted = simp length-append (omega (arith, s .counted));
-        rests-at = λ o t. c .take .ensures .rest t ∙ s .rests-at o (e ∷ t) ∙ ap rule (sym (append-assoc (l .run) (e ∷ []) t));
-      }));
+      let free : refusal n l (Take e) ≡ None = simp (on, room) in (
+        taken n rule l e free,
+        subst (λ (x : Log (g .O·Event .Denot)). Stands (g .O·Observer .rule) (g .O·Observer .rest) n rule (record { number = b .number; opened = b .opened; running = b .running; count = b .count + 1; observer = c .take .last .self }) x) (sym (grows n rule l (Take e) free)) (record {
+          number-is = s .number-is;
+          rule-is = c .take .ensures .rule ∙ s .rule-is;
+          opened-is = s .opened-is;
+          running-is = s .running-is;
+          counted = simp length-append (omega (arith, s .counted));
+          rests-at = λ o t. c .take .ensures .rest t ∙ s .rests-at o (e ∷ t) ∙ ap rule (sym (append-assoc (l .run) (e ∷ []) t));
+        }),
+      );
   same = tt;
 }

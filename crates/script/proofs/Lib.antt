@@ -1,0 +1,7 @@
+mod Numbering
+mod Cutting
+mod Wording
+mod Acting
+mod Seating
+mod OneAct
+mod OneTurn
