@@ -11,8 +11,8 @@ use Rattle.std.proofs.shelf.Tests.{cases-lt}
 use Rattle.observers.specs.declared.observer.Outlook.{Outlook}
 use Rattle.observers.specs.declared.observer.Outlook.the-variants.{Lost as outlookLost, Safe as outlookSafe, Open as outlookOpen}
 use Rattle.observers.specs.Foresight.{Every, One, Foresees}
-use Rattle.bench.specs.declared.answers.Sight.{Sight}
-use Rattle.bench.specs.declared.answers.Sight.the-variants.{Open, Lost, Safe}
+use Rattle.answers.specs.declared.Sight.{Sight}
+use Rattle.answers.specs.declared.Sight.the-variants.{Open, Lost, Safe}
 use Rattle.bench.specs.Sight.{beyond, LostAt, SafeAt, Sees}
 use Rattle.bench.specs.Calls.{Remembers, sightAt, SeenAfter}
 

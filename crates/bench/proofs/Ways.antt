@@ -5,12 +5,12 @@ use mathlib.Core.Bool.{Bool}
 use mathlib.Core.Logic.{_↔_}
 use Prim.Native.Nat.{ℕ}
 use native.Mathlib.Omega.{arith}
-use Rattle.bench.specs.declared.answers.Refusal.{Refusal}
+use Rattle.answers.specs.declared.Refusal.{Refusal}
 use Rattle.std.specs.declared.option.Option.{Option}
 use Rattle.std.specs.declared.option.Option.the-variants.{Some, None}
-use Rattle.bench.specs.declared.answers.Sight.{Sight}
-use Rattle.bench.specs.declared.answers.Reply.{Reply}
-use Rattle.bench.specs.declared.answers.Reply.the-variants.{Opened, Taken, Looked, Refused}
+use Rattle.answers.specs.declared.Sight.{Sight}
+use Rattle.answers.specs.declared.Reply.{Reply}
+use Rattle.answers.specs.declared.Reply.the-variants.{Opened, Taken, Looked, Refused}
 use Rattle.bench.specs.Log.{Log, Call, Open, Take, Ask, Look, Close, refusal, grown, unless, after}
 use Rattle.bench.specs.Sight.{Sees}
 use Rattle.bench.specs.Law.{SettledCall, Answered}

@@ -6,11 +6,11 @@ use mathlib.Core.Logic.{_↔_}
 use Prim.Native.Nat.{ℕ, _+_}
 use lib.ListN.{length}
 use Rattle.std.specs.declared.option.Option.the-variants.{Some, None}
-use Rattle.bench.specs.declared.answers.Refusal.{Refusal}
-use Rattle.bench.specs.declared.answers.Report.{Report}
-use Rattle.bench.specs.declared.answers.Sight.{Sight}
-use Rattle.bench.specs.declared.answers.Reply.{Reply}
-use Rattle.bench.specs.declared.answers.Reply.the-variants.{Opened, Taken, Told, Looked, Closed, Refused}
+use Rattle.answers.specs.declared.Refusal.{Refusal}
+use Rattle.answers.specs.declared.Report.{Report}
+use Rattle.answers.specs.declared.Sight.{Sight}
+use Rattle.answers.specs.declared.Reply.{Reply}
+use Rattle.answers.specs.declared.Reply.the-variants.{Opened, Taken, Told, Looked, Closed, Refused}
 use Rattle.bench.specs.Log.{Log, Call, Open, Take, Ask, Look, Close, refusal, Exchange, At}
 use Rattle.bench.specs.Sight.{Sees}
 

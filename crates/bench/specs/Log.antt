@@ -8,9 +8,9 @@ use lib.Dec.{ltb, eqb}
 use Rattle.std.specs.declared.option.Option.{Option}
 use Rattle.std.specs.declared.option.Option.the-variants.{Some, None}
 use Rattle.bench.specs.declared.slip.Slip.{Slip}
-use Rattle.bench.specs.declared.answers.Refusal.{Refusal}
-use Rattle.bench.specs.declared.answers.Refusal.the-variants.{RunsSpent, NoRunOpen, RunFull, SlipNotOfRun}
-use Rattle.bench.specs.declared.answers.Reply.{Reply}
+use Rattle.answers.specs.declared.Refusal.{Refusal}
+use Rattle.answers.specs.declared.Refusal.the-variants.{RunsSpent, NoRunOpen, RunFull, SlipNotOfRun}
+use Rattle.answers.specs.declared.Reply.{Reply}
 
 -- how many runs were opened, whether one is open, and the run: the events taken since the last opening
 pub record Log (E : Type 0) : Type 0 where

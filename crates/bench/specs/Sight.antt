@@ -6,8 +6,8 @@ use mathlib.Core.Logic.{_↔_}
 use Prim.Native.Nat.{ℕ, _<_, _≤_}
 use lib.ListN.{length, take}
 use Rattle.observers.specs.Foresight.{Every, One}
-use Rattle.bench.specs.declared.answers.Sight.{Sight}
-use Rattle.bench.specs.declared.answers.Sight.the-variants.{Open, Lost, Safe}
+use Rattle.answers.specs.declared.Sight.{Sight}
+use Rattle.answers.specs.declared.Sight.the-variants.{Open, Lost, Safe}
 
 -- whether a continuation of the first n events of a run keeps the rule
 abbrev pub beyond : {E : Type 0} → (List E → Bool) → List E → ℕ → List E → Bool

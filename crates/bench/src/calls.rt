@@ -6,8 +6,8 @@ ghost use Rattle.std.specs.Results.{Cases};
 ghost use Rattle.bench.specs.Log.{Log};
 ghost use Rattle.bench.specs.Log.{Open as opening, Take as taking, Ask as asking, Close as closing};
 ghost use Rattle.bench.specs.Calls.{Lawful, openReply, takeReply, askReply, closeReply};
-use crate::answers::Refusal;
-use crate::answers::Report;
+use answers::Refusal;
+use answers::Report;
 use crate::slip::Slip;
 
 // The calls that every bench has.

@@ -1,5 +1,4 @@
 // The bench: runs are opened, events taken, marks told and runs closed, over any observer.
-pub mod answers;
 pub mod calls;
 pub mod looking;
 pub mod plain;

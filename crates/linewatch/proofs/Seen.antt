@@ -8,11 +8,11 @@ use Rattle.std.specs.declared.option.Option.{Option}
 use Rattle.std.specs.declared.option.Option.the-variants.{Some, None}
 use Rattle.events.specs.declared.sheet.SheetEvent.{SheetEvent}
 use Rattle.events.specs.declared.sheet.SheetEvent.the-variants.{Struck, LineEnd, SheetEnd}
-use Rattle.bench.specs.declared.answers.Refusal.{Refusal}
-use Rattle.bench.specs.declared.answers.Refusal.the-variants.{NoRunOpen}
-use Rattle.bench.specs.declared.answers.Sight.{Sight}
-use Rattle.bench.specs.declared.answers.Sight.the-variants.{Open, Lost, Safe}
-use Rattle.bench.specs.declared.answers.Reply.the-variants.{Looked, Refused}
+use Rattle.answers.specs.declared.Refusal.{Refusal}
+use Rattle.answers.specs.declared.Refusal.the-variants.{NoRunOpen}
+use Rattle.answers.specs.declared.Sight.{Sight}
+use Rattle.answers.specs.declared.Sight.the-variants.{Open, Lost, Safe}
+use Rattle.answers.specs.declared.Reply.the-variants.{Looked, Refused}
 use Rattle.bench.specs.Log.{Log, Look, refusal}
 use Rattle.bench.specs.Sight.{Sees, LostAt}
 use Rattle.bench.specs.Law.{Answered}

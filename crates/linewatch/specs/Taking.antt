@@ -10,7 +10,7 @@ use Rattle.std.specs.declared.result.Result.the-variants.{Ok, Err}
 use Rattle.events.specs.declared.sheet.SheetEvent.{SheetEvent}
 use Rattle.notation.specs.Refusals.{lineNumber}
 use Rattle.notation.specs.Sheets.{SheetRead}
-use Rattle.bench.specs.Numbers.{refusalNumber}
+use Rattle.answers.specs.Numbers.{refusalNumber}
 use Rattle.bench.specs.Log.{Log, Take, refusal, grown}
 use Rattle.bench.specs.Sight.{LostAt}
 use Rattle.linewatch.specs.declared.Row.{Row}

@@ -8,14 +8,14 @@ use Rattle.std.specs.declared.option.Option.{Option}
 use Rattle.std.specs.declared.option.Option.the-variants.{Some, None}
 use Rattle.events.specs.Refusals as event
 use Rattle.events.specs.declared.refusal.EventRefusal.{EventRefusal}
-use Rattle.bench.specs.Numbers.{refusalNumber}
-use Rattle.bench.specs.declared.answers.Refusal.{Refusal}
-use Rattle.bench.specs.declared.answers.Refusal.the-variants.{RunsSpent, NoRunOpen, RunFull, SlipNotOfRun}
-use Rattle.bench.specs.declared.answers.Report.{Report}
-use Rattle.bench.specs.declared.answers.Sight.{Sight}
-use Rattle.bench.specs.declared.answers.Sight.the-variants.{Open, Lost, Safe}
-use Rattle.bench.specs.declared.answers.Reply.{Reply}
-use Rattle.bench.specs.declared.answers.Reply.the-variants.{Opened, Taken, Told, Looked, Closed, Refused}
+use Rattle.answers.specs.Numbers.{refusalNumber}
+use Rattle.answers.specs.declared.Refusal.{Refusal}
+use Rattle.answers.specs.declared.Refusal.the-variants.{RunsSpent, NoRunOpen, RunFull, SlipNotOfRun}
+use Rattle.answers.specs.declared.Report.{Report}
+use Rattle.answers.specs.declared.Sight.{Sight}
+use Rattle.answers.specs.declared.Sight.the-variants.{Open, Lost, Safe}
+use Rattle.answers.specs.declared.Reply.{Reply}
+use Rattle.answers.specs.declared.Reply.the-variants.{Opened, Taken, Told, Looked, Closed, Refused}
 use Rattle.script.specs.declared.refusal.TurnRefusal.{TurnRefusal}
 use Rattle.script.specs.declared.refusal.TurnRefusal.the-variants.{NotATurn, Event}
 

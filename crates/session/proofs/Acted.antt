@@ -14,10 +14,10 @@ use Rattle.std.specs.declared.option.Option.the-variants.{Some, None}
 use Rattle.std.specs.declared.result.Result.{Result}
 use Rattle.std.specs.declared.result.Result.the-variants.{Ok, Err}
 use Rattle.bench.specs.declared.slip.Slip.{Slip}
-use Rattle.bench.specs.declared.answers.Refusal.{Refusal}
-use Rattle.bench.specs.declared.answers.Report.{Report}
-use Rattle.bench.specs.declared.answers.Reply.{Reply}
-use Rattle.bench.specs.declared.answers.Reply.the-variants.{Opened, Closed, Refused}
+use Rattle.answers.specs.declared.Refusal.{Refusal}
+use Rattle.answers.specs.declared.Report.{Report}
+use Rattle.answers.specs.declared.Reply.{Reply}
+use Rattle.answers.specs.declared.Reply.the-variants.{Opened, Closed, Refused}
 use Rattle.bench.specs.Log.{Log, Call, Open, Take, Ask, Close, Exchange}
 use Rattle.bench.specs.Calls.{Lawful, openReply, closeReply}
 use Rattle.session.specs.declared.turn.Act.{Act}

@@ -11,9 +11,9 @@ use Rattle.observers.specs.declared.port.Port.{Port}
 use Rattle.sheets.specs.declared.ports.Flow.{Flow}
 use Rattle.sheets.specs.Ports.{flow}
 use Rattle.bench.specs.declared.slip.Slip.{Slip}
-use Rattle.bench.specs.declared.answers.Refusal.{Refusal}
-use Rattle.bench.specs.declared.answers.Reply.{Reply}
-use Rattle.bench.specs.declared.answers.Reply.the-variants.{Opened, Taken, Told, Looked, Closed, Refused}
+use Rattle.answers.specs.declared.Refusal.{Refusal}
+use Rattle.answers.specs.declared.Reply.{Reply}
+use Rattle.answers.specs.declared.Reply.the-variants.{Opened, Taken, Told, Looked, Closed, Refused}
 use Rattle.bench.specs.Log.{Log, fresh, Call, Open, Take, Ask, Look, Close, refusal, Exchange, after, logFrom, At}
 use Rattle.bench.specs.Law.{Answered}
 use Rattle.session.specs.declared.turn.Turn.{Turn}

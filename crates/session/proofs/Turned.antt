@@ -4,7 +4,7 @@ use mathlib.Core.List.{List, [], _∷_, _++_}
 use mathlib.Core.Bool.{Bool}
 use Prim.Native.Nat.{ℕ}
 use Rattle.std.specs.declared.option.Option.{Option}
-use Rattle.bench.specs.declared.answers.Reply.{Reply}
+use Rattle.answers.specs.declared.Reply.{Reply}
 use Rattle.bench.specs.Log.{Log, fresh, Call, Exchange, after, logFrom, logOf}
 use Rattle.bench.specs.Calls.{Lawful}
 use Rattle.session.specs.declared.turn.Turn.{Turn}

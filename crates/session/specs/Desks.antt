@@ -6,7 +6,7 @@ use Prim.Native.Nat.{ℕ}
 use Rattle.std.specs.declared.option.Option.{Option}
 use Rattle.events.specs.declared.sheet.SheetEvent.{SheetEvent}
 use Rattle.bench.specs.declared.slip.Slip.{Slip}
-use Rattle.bench.specs.declared.answers.Reply.{Reply}
+use Rattle.answers.specs.declared.Reply.{Reply}
 use Rattle.bench.specs.declared.looking.LookBench.{LookBench}
 use Rattle.bench.specs.Log.{Log, fresh, Exchange, logOf}
 use Rattle.session.specs.declared.turn.Turn.{Turn}

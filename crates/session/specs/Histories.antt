@@ -4,7 +4,7 @@ use Rattle.std.specs.declared.option.Option.{Option}
 use Rattle.std.specs.declared.option.Option.the-variants.{Some}
 use Rattle.events.specs.declared.sheet.SheetEvent.{SheetEvent}
 use Rattle.bench.specs.declared.slip.Slip.{Slip}
-use Rattle.bench.specs.declared.answers.Reply.{Reply}
+use Rattle.answers.specs.declared.Reply.{Reply}
 use Rattle.bench.specs.Log.{Look, Exchange}
 use Rattle.session.specs.declared.turn.Act.{Act}
 use Rattle.session.specs.declared.turn.Turn.{Turn}

@@ -8,8 +8,8 @@ use Rattle.std.specs.declared.option.Option.the-variants.{Some, None}
 use Rattle.events.specs.declared.sheet.SheetEvent.{SheetEvent}
 use Rattle.sheets.specs.Ports.{flow}
 use Rattle.bench.specs.declared.slip.Slip.{Slip}
-use Rattle.bench.specs.declared.answers.Reply.{Reply}
-use Rattle.bench.specs.declared.answers.Reply.the-variants.{Opened, Taken, Told, Looked, Closed, Refused}
+use Rattle.answers.specs.declared.Reply.{Reply}
+use Rattle.answers.specs.declared.Reply.the-variants.{Opened, Taken, Told, Looked, Closed, Refused}
 use Rattle.bench.specs.Log.{Log, Call, Exchange, At}
 use Rattle.bench.specs.Law.{Settled, Marks, Looks}
 use Rattle.session.specs.declared.turn.Turn.{Turn}

@@ -1,7 +1,7 @@
 use mathlib.Core.Path.{_≡_, sym, _∙_}
 use Prim.Native.Nat.{ℕ}
 use native.Mathlib.Omega.{arith}
-use Rattle.bench.specs.declared.answers.Sight.the-variants.{Open, Lost, Safe}
+use Rattle.answers.specs.declared.Sight.the-variants.{Open, Lost, Safe}
 use Rattle.linewatch.proofs.Seen.{not-refused, lost, not-lost}
 use Rattle.linewatch.proofs.lost_since.Needs as need
 

@@ -13,7 +13,7 @@ use Rattle.observers.specs.declared.port.Port.{Port}
 use Rattle.sheets.specs.declared.ports.Flow.{Flow}
 use Rattle.sheets.specs.Ports.{flow}
 use Rattle.bench.specs.declared.slip.Slip.{Slip}
-use Rattle.bench.specs.declared.answers.Reply.{Reply}
+use Rattle.answers.specs.declared.Reply.{Reply}
 use Rattle.bench.specs.declared.plain.Bench.{Bench}
 use Rattle.bench.specs.Log.{fresh}
 use Rattle.bench.specs.Calls.{Stands}

@@ -6,9 +6,9 @@ use Rattle.std.specs.declared.result.Result.{Result}
 use Rattle.std.specs.declared.result.Result.the-variants.{Ok, Err}
 use Rattle.std.specs.Results.{Cases}
 use Rattle.bench.specs.declared.slip.Slip.{Slip}
-use Rattle.bench.specs.declared.answers.Refusal.{Refusal}
-use Rattle.bench.specs.declared.answers.Report.{Report}
-use Rattle.bench.specs.declared.answers.Sight.{Sight}
+use Rattle.answers.specs.declared.Refusal.{Refusal}
+use Rattle.answers.specs.declared.Report.{Report}
+use Rattle.answers.specs.declared.Sight.{Sight}
 use Rattle.bench.specs.declared.plain.Bench.{Bench}
 use Rattle.bench.specs.declared.looking.LookBench.{LookBench}
 use Rattle.bench.specs.Log.{Log, Close, refusal, grown}

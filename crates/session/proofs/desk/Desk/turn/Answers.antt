@@ -4,7 +4,7 @@ use native.Mathlib.Omega.{arith}
 use Rattle.std.specs.declared.option.Option.the-variants.{Some}
 use Rattle.std.specs.Of.Vec.{vec-items}
 use Rattle.bench.specs.declared.slip.Slip.{Slip}
-use Rattle.bench.specs.declared.answers.Reply.{Reply}
+use Rattle.answers.specs.declared.Reply.{Reply}
 use Rattle.bench.specs.Log.{Look}
 use Rattle.bench.specs.Calls.{LookStands, Lawful}
 use Rattle.session.specs.declared.turn.Turn.{Turn}

@@ -1,5 +1,6 @@
+// What the calls on a bench answer.
 ghost use mathlib.Core.Path.{_≡_};
-ghost use Rattle.bench.specs.Numbers.{refusalNumber};
+ghost use Rattle.answers.specs.Numbers.{refusalNumber};
 
 // Why a call on a bench is refused, with the number that a refusal is known by.
 #[derive(Clone, Copy, PartialEq, Eq, Debug)]

@@ -1,7 +1,7 @@
 -- The numbers of a bench's refusals.
 use Prim.Native.Nat.{ℕ}
-use Rattle.bench.specs.declared.answers.Refusal.{Refusal}
-use Rattle.bench.specs.declared.answers.Refusal.the-variants.{RunsSpent, NoRunOpen, RunFull, SlipNotOfRun}
+use Rattle.answers.specs.declared.Refusal.{Refusal}
+use Rattle.answers.specs.declared.Refusal.the-variants.{RunsSpent, NoRunOpen, RunFull, SlipNotOfRun}
 
 abbrev pub refusalNumber : Refusal → ℕ
 refusalNumber RunsSpent = 31
