@@ -1,7 +1,7 @@
 -- How a bench stands at its log, and the law of each call.
 use mathlib.Core.Path.{_≡_}
 use mathlib.Core.List.{List, _++_}
-use mathlib.Core.Bool.{Bool, true, false}
+use mathlib.Core.Bool.{Bool, true}
 use Prim.Native.Nat.{ℕ, _≤_}
 use lib.ListN.{length}
 use Rattle.std.specs.declared.result.Result.{Result}
@@ -47,7 +47,7 @@ sightAt outlookOpen n = Open
 abbrev pub SeenAfter : {E : Type 0} → (List E → Bool) → ℕ → Sight → Type 0
 SeenAfter rest n s = (o : Outlook) × Foresees rest o × (s ≡ sightAt o n)
 
--- so does a bench with look, which remembers what can be seen of the open run
+-- a bench with look stands at the log l where the bench inside does, and it remembers what can be seen of the open run
 pub record LookStands {E O : Type 0} (rules rests : O → List E → Bool) (n : ℕ) (rule : List E → Bool) (b : LookBench O) (l : Log E) : Type 0 where
   pub bare : Stands rules rests n rule (b .bench) l
   pub sighted : l .running ≡ true → Remembers rule (l .run) (b .sight)

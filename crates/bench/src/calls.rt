@@ -6,9 +6,9 @@ ghost use Rattle.std.specs.Results.{Cases};
 ghost use Rattle.bench.specs.Log.{Log};
 ghost use Rattle.bench.specs.Log.{Open as opening, Take as taking, Ask as asking, Close as closing};
 ghost use Rattle.bench.specs.Calls.{Lawful, openReply, takeReply, askReply, closeReply};
+use crate::slip::Slip;
 use answers::Refusal;
 use answers::Report;
-use crate::slip::Slip;
 
 // The calls that every bench has.
 //     stands   a bench of this number, over an observer of this rule, stands at this log

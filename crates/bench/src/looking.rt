@@ -2,13 +2,13 @@ ghost use mathlib.Core.Path.{_≡_};
 ghost use Rattle.bench.specs.Log.{fresh};
 ghost use Rattle.bench.specs.Log.{Look as looking};
 ghost use Rattle.bench.specs.Calls.{LookStands, Lawful, lookReply, sightAt, SeenAfter};
-use answers::Refusal;
-use answers::Report;
-use answers::Sight;
 use crate::calls::Calls;
 use crate::plain::Bench;
 use crate::plain::BenchCalls;
 use crate::slip::Slip;
+use answers::Refusal;
+use answers::Report;
+use answers::Sight;
 use observers::FarSighted;
 use observers::Outlook;
 

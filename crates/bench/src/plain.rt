@@ -2,11 +2,11 @@ ghost use mathlib.Core.Path.{_≡_};
 ghost use mathlib.Core.List.{[]};
 ghost use Rattle.bench.specs.Log.{fresh};
 ghost use Rattle.bench.specs.Calls.{Stands};
-use answers::Refusal;
-use answers::Report;
 use crate::calls::Calls;
 use crate::slip::Slip;
 use crate::slip::write_off;
+use answers::Refusal;
+use answers::Report;
 use observers::Observer;
 
 const MOST_RUNS: u16 = 65_535;

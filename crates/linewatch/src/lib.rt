@@ -1,6 +1,5 @@
 // Lines of input, each an event that is taken on a bench with look, up to the moment when the run is lost.
 ghost use mathlib.Core.Path.{_≡_};
-ghost use Rattle.std.specs.Results.{Cases};
 ghost use Rattle.bench.specs.Calls.{LookStands};
 ghost use Rattle.linewatch.specs.Rows.{rowAfter, rowStep};
 ghost use Rattle.linewatch.specs.Taking.{LineLaw, LostLaw, takeNumber};

@@ -35,7 +35,7 @@ pub record StandsAfter {E B : Type 0} (S : Standing E B) (s : Seat E) (b : B) (h
   pub stands : S (s .number) (s .rule) b (logOf (s .number) h)
   pub answered : AllAnswered (s .number) (s .rule) fresh h
 
--- so do all four
+-- all four benches stand at their histories
 pub record DeskStands {E F L P X Y : Type 0} (W : Standing E (LookBench L)) (Q : Standing F P) (R : Standing SheetEvent X) (S : Standing SheetEvent Y) (s : Seats E F) (d : Desk L P X Y) (h : Histories E F) : Type 0 where
   pub watching : StandsAfter W (s .watch) (d .watch) (h .watch)
   pub plain : StandsAfter Q (s .plain) (d .plain) (h .plain)
