@@ -6,7 +6,7 @@ use events::SheetEvent;
 use events::SheetKind;
 use std::test::*;
 
-// The name of every cell from 0 to 63 by its first letter, written down from a braille chart.
+// The name of every cell from 0 to 63 by its first letter: a table where the code has cases, made from the same list of cells.
 const CHART: &[u8; 64] = b"sdodooooodddooooododooooodddoooocooooooooooooooooooooooooooonooo";
 
 fn name_of(letter: u8) -> u8 {
