@@ -14,7 +14,7 @@ returns-in-Err-take g c n rule l st =
 pub returns-in-Some : goal.returns-in-Some
 returns-in-Some g c n rule l st =
     let e = c.in-Ok.event in
-    let q = c.in-default.ensures.law n rule l st in
+    let q = c.in_default.ensures.law n rule l st in
     let free = (q.0.settled.taken.0 refl).1 in
     let at = subst (λ (x : Log SheetEvent). LookStands g.O.Observer.rule g.O.Observer.rest n rule c.take.new.self x) (grows n rule l (Take e) free) q.1 in
     let on : l.running ≡ true = is_running l.running _ free in
@@ -23,8 +23,8 @@ returns-in-Some g c n rule l st =
 pub returns : goal.returns
 returns g c n rule l st =
     let e = c.in-Ok.event in
-    let q = c.in-default.ensures.law n rule l st in
+    let q = c.in_default.ensures.law n rule l st in
     let free = (q.0.settled.taken.0 refl).1 in
     let at = subst (λ (x : Log SheetEvent). LookStands g.O.Observer.rule g.O.Observer.rest n rule c.take.new.self x) (grows n rule l (Take e) free) q.1 in
     let on : l.running ≡ true = is_running l.running _ free in
-    (e, c.in-Ok.ensures, free, at, step_is rule (l.run ++ (e ∷ [])) e c.args.row.now c.follow.new.self c.follow.result (c.in-default-lost-since.ensures n rule (grown l (Take e)) at on) c.follow.ensures.value c.follow.ensures.after)
+    (e, c.in-Ok.ensures, free, at, step_is rule (l.run ++ (e ∷ [])) e c.args.row.now c.follow.new.self c.follow.result (c.in_default-lost_since.ensures n rule (grown l (Take e)) at on) c.follow.ensures.value c.follow.ensures.after)

@@ -9,11 +9,11 @@ use Rattle.notation.proofs.machine.read_word.Goals as goal
 small : (w i : ℕ) → w < 16 ^ i → i ≤ 7 → w < 2 ^ 28
 small w i u h = omega (arith, pow-le-pow_right {n = 16} (lit< tt) {i = i} {j = 7} h)
 
-pub overflow-mul-word : goal.overflow-mul-word
-overflow-mul-word c = omega (arith, small c.loop-byte.word c.loop-byte.byte-index c.loop-byte.invariant.0 (omega arith))
+pub overflow_mul-word : goal.overflow_mul-word
+overflow_mul-word c = omega (arith, small c.loop-byte.word c.loop-byte.byte-index c.loop-byte.invariant.0 (omega arith))
 
-pub overflow-add-word : goal.overflow-add-word
-overflow-add-word c =
+pub overflow_add-word : goal.overflow_add-word
+overflow_add-word c =
     omega (arith, small c.loop-byte.word c.loop-byte.byte-index c.loop-byte.invariant.0 (omega arith), c.in-Some.ensures)
 
 pub loop-byte-preserved : goal.loop-byte-preserved

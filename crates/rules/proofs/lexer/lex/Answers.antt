@@ -23,4 +23,4 @@ loop-piece-preserved g c =
 
 pub returns : goal.returns
 returns g c =
-    at_last _ _ _ _ _ _ _ c.loop-piece.invariant.1 (subst (λ z. begins z c.loop-piece.rest.at ≡ length z) c.loop-piece.invariant.0 c.in-default.ensures.taken)
+    at_last _ _ _ _ _ _ _ c.loop-piece.invariant.1 (subst (λ z. begins z c.loop-piece.rest.at ≡ length z) c.loop-piece.invariant.0 c.in_default.ensures.taken)

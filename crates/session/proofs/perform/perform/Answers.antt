@@ -41,8 +41,8 @@ returns-else-k-len g c =
     let v = c.args.held.now in
     let near : c.in-Close.k < length (vec_items v) = omega (arith, v.ok.0, c.len.ensures) in
     record {
-      law = act_close g.B.Calls.stands _ _ _ _ _ _ c.in-Close.k c.remove-slip.result c.close.result c.in-Close.is near c.remove-slip.ensures.value c.put-back.ensures.value (c.put-back.ensures.items ∙ ap (λ (x : List Slip). restored x c.in-Close.k c.close.result) c.remove-slip.ensures.items)
+      law = act_close g.B.Calls.stands _ _ _ _ _ _ c.in-Close.k c.remove-slip.result c.close.result c.in-Close.is near c.remove-slip.ensures.value c.put_back.ensures.value (c.put_back.ensures.items ∙ ap (λ (x : List Slip). restored x c.in-Close.k c.close.result) c.remove-slip.ensures.items)
           c.close.ensures.back c.close.ensures.law;
-      len = omega (arith, c.put-back.ensures.len, c.remove-slip.ensures.len);
-      capacity = c.put-back.ensures.capacity ∙ c.remove-slip.ensures.capacity;
+      len = omega (arith, c.put_back.ensures.len, c.remove-slip.ensures.len);
+      capacity = c.put_back.ensures.capacity ∙ c.remove-slip.ensures.capacity;
     }

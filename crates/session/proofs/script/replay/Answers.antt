@@ -28,32 +28,32 @@ nothing_yet {E} {F} brought rs e = subst (λ (x : List (Option Reply)). Performe
 on_flow : {X : Type 0} (rule rest : X → List SheetEvent → Bool) (n : ℕ) (x : X) (p : Port Flow X) (b : Bench (Port Flow X)) → p.below ≡ x → Stands (over_flow rule) (over_flow rest) n (over_flow rule p) b fresh → Stands (over_flow rule) (over_flow rest) n (λ run. rule x (flow run)) b fresh
 on_flow {X} rule rest n x p b e st = subst (λ (y : X). Stands (over_flow rule) (over_flow rest) n (λ run. rule y (flow run)) b fresh) e st
 
-pub returns-in-err-reserve : goal.returns-in-err-reserve
-returns-in-err-reserve g c =
-    let p = err_from_is_err_and c.from-residual.result c.from-residual.ensures.1 in
+pub returns-in_err-reserve : goal.returns-in_err-reserve
+returns-in_err-reserve g c =
+    let p = err_from_is_err_and c.from_residual.result c.from_residual.ensures.1 in
     record {
       law = rw p.1 tt;
       unharmed = rw p.1 refl;
-      succeeds = λ room more. absurd (omega (arith, c.in-err-reserve.ensures.full, c.clear.ensures.len, c.clear.ensures.capacity, c.len.ensures, c.args.turns.ok.0));
+      succeeds = λ room more. absurd (omega (arith, c.in_err-reserve.ensures.full, c.clear.ensures.len, c.clear.ensures.capacity, c.len.ensures, c.args.turns.ok.0));
     }
 
-pub returns-in-err-reserve-2 : goal.returns-in-err-reserve-2
-returns-in-err-reserve-2 g c =
-    let p = err_from_is_err_and c.from-residual-in-err-reserve-2.result c.from-residual-in-err-reserve-2.ensures.1 in
+pub returns-in_err-reserve-2 : goal.returns-in_err-reserve-2
+returns-in_err-reserve-2 g c =
+    let p = err_from_is_err_and c.from_residual-in_err-reserve-2.result c.from_residual-in_err-reserve-2.ensures.1 in
     record {
       law = rw p.1 tt;
       unharmed = rw p.1 c.reserve-2.ensures.items;
-      succeeds = λ room more. absurd (omega (arith, c.in-err-reserve-2.ensures.full, c.len-2.ensures, c.args.turns.ok.0));
+      succeeds = λ room more. absurd (omega (arith, c.in_err-reserve-2.ensures.full, c.len-2.ensures, c.args.turns.ok.0));
     }
 
 pub loop-turn-init : goal.loop-turn-init
 loop-turn-init g c =
-    let n = ap length c.into-iter-turn-iterator.ensures.into-iter-gives.0 in
+    let n = ap length c.into_iter-turn-iterator.ensures.into_iter_gives.0 in
     let none : vec_items c.reserve.new.self ≡ [] = c.reserve.ensures.items ∙ c.clear.ensures.items in
     let brought = vec_items c.reserve-2.new.self in (
       refl,
-      omega (arith, c.in-ok-reserve-2.ensures.ok, c.len-2.ensures, c.args.turns.ok.0, n),
-      omega (arith, c.in-ok-reserve.ensures.ok, c.len.ensures, c.args.turns.ok.0, n),
+      omega (arith, c.in_ok-reserve-2.ensures.ok, c.len-2.ensures, c.args.turns.ok.0, n),
+      omega (arith, c.in_ok-reserve.ensures.ok, c.len.ensures, c.args.turns.ok.0, n),
       λ s st. (begun brought, nothing_yet brought _ none, st, refl),
     )
 
@@ -64,10 +64,10 @@ loop-turn-preserved g c =
     let inv = c.loop-turn.invariant in
     let r = c.turn-reply.result in
     let step = c.in-Some.ensures.steps.0 in
-    let pushed = c.push-reserved.ensures.items in (
+    let pushed = c.push_reserved.ensures.items in (
       append_assoc past (u ∷ []) _ ∙ ap (λ (x : List (Turn g.row.L-Event.Denot g.row.O-Event.Denot)). past ++ x) (sym step) ∙ inv.0,
       omega (arith, c.turn-reply.ensures.len, c.turn-reply.ensures.capacity, inv.1, ap length step),
-      omega (arith, c.push-reserved.ensures.len, c.push-reserved.ensures.capacity, inv.2, ap length step),
+      omega (arith, c.push_reserved.ensures.len, c.push_reserved.ensures.capacity, inv.2, ap length step),
       λ s st.
           let brought = vec_items c.reserve-2.new.self in
           let p = inv.3 s st in
@@ -91,11 +91,11 @@ returns g c =
     let p = inv.3 s (record {
       watching = record { stands = c.new.ensures; answered = tt };
       plain = record { stands = c.new-2.ensures; answered = tt };
-      first = record { stands = on_flow g.X.Observer.rule g.X.Observer.rest k.first c.args.first c.flow-port.result c.new-3.result c.flow-port.ensures c.new-3.ensures; answered = tt };
-      second = record { stands = on_flow g.Y.Observer.rule g.Y.Observer.rest k.second c.args.second c.flow-port-2.result c.new-4.result c.flow-port-2.ensures c.new-4.ensures; answered = tt };
+      first = record { stands = on_flow g.X.Observer.rule g.X.Observer.rest k.first c.args.first c.flow_port.result c.new-3.result c.flow_port.ensures c.new-3.ensures; answered = tt };
+      second = record { stands = on_flow g.Y.Observer.rule g.Y.Observer.rest k.second c.args.second c.flow_port-2.result c.new-4.result c.flow_port-2.ensures c.new-4.ensures; answered = tt };
     }) in
     let none : left ≡ [] = none_left left (omega (arith, c.in-None.ensures.steps.0, c.loop-turn.turn-iterator.rest.ok.0)) in
-    let all : past ≡ turns = sym (append-nil past) ∙ ap (λ (z : List (Turn g.row.L-Event.Denot g.row.O-Event.Denot)). past ++ z) (sym none) ∙ inv.0 ∙ c.into-iter-turn-iterator.ensures.into-iter-gives.0 in
+    let all : past ≡ turns = sym (append-nil past) ∙ ap (λ (z : List (Turn g.row.L-Event.Denot g.row.O-Event.Denot)). past ++ z) (sym none) ∙ inv.0 ∙ c.into_iter-turn-iterator.ensures.into_iter_gives.0 in
     let came = c.reserve-2.ensures.items in
     let done : Performed (begun (vec_items c.args.held.now)) turns rs p.0 = subst (λ (z : List Slip). Performed (begun z) turns rs p.0) came (subst (λ (z : List (Turn g.row.L-Event.Denot g.row.O-Event.Denot)). Performed (begun (vec_items c.reserve-2.new.self)) z rs p.0) all p.1) in
     let st = p.2 in

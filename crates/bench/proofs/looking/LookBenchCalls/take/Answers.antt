@@ -25,7 +25,7 @@ pub returns : goal.returns
 returns g c = record {
   law = λ n rule l s.
       let e = c.args.e in
-      let q = c.in-default.ensures.law n rule l s.bare in
+      let q = c.in_default.ensures.law n rule l s.bare in
       let more = grows n rule l (Take e) (q.0.settled.taken.0 refl).1 in
       let at = subst (λ (x : Log g.row.O-Event.Denot). Stands g.O.Observer.rule g.O.Observer.rest n rule c.take.new.self x) more q.1 in (
         q.0,

@@ -5,8 +5,8 @@ use Rattle.rules.proofs.rule.Rule.of.Goals as goal
 pub filled-requires : goal.filled-requires
 filled-requires g c = omega (arith, c.nodes-from.ensures.count, c.requires.few_nodes)
 
-pub invariant-of-result : goal.invariant-of-result
-invariant-of-result g c = (
+pub invariant_of-result : goal.invariant_of-result
+invariant_of-result g c = (
   omega (arith, c.nodes-from.ensures.count, c.requires.few_nodes),
   (
     omega (arith, c.promises.ensures, c.requires.few_temporal),

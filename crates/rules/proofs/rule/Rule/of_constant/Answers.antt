@@ -3,8 +3,8 @@ use Rattle.formulas.specs.Formulas.{constant}
 use Rattle.formulas.specs.Trees.{formula_at}
 use Rattle.rules.proofs.rule.Rule.of_constant.Goals as goal
 
-pub invariant-of-result : goal.invariant-of-result
-invariant-of-result g c =
+pub invariant_of-result : goal.invariant_of-result
+invariant_of-result g c =
     (lit≤ tt, (lit≤ tt, (∣ record { formula = constant c.args.truth; listed = refl; size = refl; numbered = refl } ∣₁, tt)))
 
 pub returns : goal.returns

@@ -10,9 +10,9 @@ pub returns : goal.returns
 unfolding sign_of ends piece
 returns c =
     let text = c.args.self.now.text.now in
-    let place = c.past-spaces-place.result in
-    let at = c.past-spaces-place.ensures.is in
-    let long : c.word-end-end.result - place ≡ size (drop place text) = omega (arith, c.word-end-end.ensures.is) in
+    let place = c.past_spaces-place.result in
+    let at = c.past_spaces-place.ensures.is in
+    let long : c.word_end-end.result - place ≡ size (drop place text) = omega (arith, c.word_end-end.ensures.is) in
     record {
       same = refl;
       within = omega arith;
@@ -20,8 +20,8 @@ returns c =
       taken = (
         omega arith,
         at,
-        c.sign-of-sign.ensures ∙ ap (λ k. sign (get_or text k 0)) at,
+        c.sign_of-sign.ensures ∙ ap (λ k. sign (get_or text k 0)) at,
         ap (λ n. take n (drop place text)) long ∙ ap (λ k. take (size (drop k text)) (drop k text)) at,
-        c.word-end-end.ensures.is ∙ ap (λ k. k + size (drop k text)) at,
+        c.word_end-end.ensures.is ∙ ap (λ k. k + size (drop k text)) at,
       );
     }
