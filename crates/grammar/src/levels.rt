@@ -43,7 +43,7 @@ fn close_at(words: &[Word], at: usize) -> bool
 }
 
 // The levels of the grammar, the tightest first: each reads the longest part of its level from the word `at` on, or tells where it fails.
-#[cycle(alternative_conjunction_implication_operand_rule_until)]
+#[cycle(levels)]
 fn operand(words: &[Word], at: usize, tree: &mut Tree) -> Result<Part, usize>
     requires { Ready words.now at tree.old }
     ensures { MatchResult result (λ p. Took Operand 1 words.now at at tree.old tree.new p) (λ e. Failed Operand words.now at e) }
@@ -89,7 +89,7 @@ fn operand(words: &[Word], at: usize, tree: &mut Tree) -> Result<Part, usize>
     }
 }
 
-#[cycle(alternative_conjunction_implication_operand_rule_until)]
+#[cycle(levels)]
 fn until(words: &[Word], at: usize, tree: &mut Tree) -> Result<Part, usize>
     requires { Ready words.now at tree.old }
     ensures { MatchResult result (λ p. Took Until 2 words.now at at tree.old tree.new p) (λ e. Failed Until words.now at e) }
@@ -113,7 +113,7 @@ fn until(words: &[Word], at: usize, tree: &mut Tree) -> Result<Part, usize>
     }
 }
 
-#[cycle(alternative_conjunction_implication_operand_rule_until)]
+#[cycle(levels)]
 fn conjunction(words: &[Word], at: usize, tree: &mut Tree) -> Result<Part, usize>
     requires { Ready words.now at tree.old }
     ensures { MatchResult result (λ p. Took Conjunction 3 words.now at at tree.old tree.new p) (λ e. Failed Conjunction words.now at e) }
@@ -136,7 +136,7 @@ fn conjunction(words: &[Word], at: usize, tree: &mut Tree) -> Result<Part, usize
     Ok(left)
 }
 
-#[cycle(alternative_conjunction_implication_operand_rule_until)]
+#[cycle(levels)]
 fn alternative(words: &[Word], at: usize, tree: &mut Tree) -> Result<Part, usize>
     requires { Ready words.now at tree.old }
     ensures { MatchResult result (λ p. Took Alternative 4 words.now at at tree.old tree.new p) (λ e. Failed Alternative words.now at e) }
@@ -159,7 +159,7 @@ fn alternative(words: &[Word], at: usize, tree: &mut Tree) -> Result<Part, usize
     Ok(left)
 }
 
-#[cycle(alternative_conjunction_implication_operand_rule_until)]
+#[cycle(levels)]
 fn implication(words: &[Word], at: usize, tree: &mut Tree) -> Result<Part, usize>
     requires { Ready words.now at tree.old }
     ensures { MatchResult result (λ p. Took Implication 5 words.now at at tree.old tree.new p) (λ e. Failed Implication words.now at e) }
@@ -183,7 +183,7 @@ fn implication(words: &[Word], at: usize, tree: &mut Tree) -> Result<Part, usize
     }
 }
 
-#[cycle(alternative_conjunction_implication_operand_rule_until)]
+#[cycle(levels)]
 pub(crate) fn rule(words: &[Word], at: usize, tree: &mut Tree) -> Result<Part, usize>
     requires { Ready words.now at tree.old }
     ensures { MatchResult result (λ p. TookRule words.now at tree.old tree.new p) (λ e. Failed Rule words.now at e) }

@@ -26,10 +26,10 @@ fn read_close<E: Notation>(digits: &[u8]) -> Result<Act<E>, TurnRefusal>
 pub(crate) fn read_act<E: Notation>(act: &[u8]) -> Result<Act<E>, TurnRefusal>
     ensures { Exactly (ActRead E.Notation.written E.Notation.means act.now) result }
 {
-    if act == b"open" {
+    if act == b"open".as_slice() {
         return Ok(Act::Open);
     }
-    if act == b"ask" {
+    if act == b"ask".as_slice() {
         return Ok(Act::Ask);
     }
     if let Some(event) = act.strip_prefix(b"take ") {

@@ -11,7 +11,7 @@ use session::Turn;
 fn read_watch(act: &[u8]) -> Result<Turn<SheetEvent, MachineEvent>, TurnRefusal>
     ensures { Exactly (TurnRead (codes "ruler " ++ act.now)) result }
 {
-    if act == b"look" {
+    if act == b"look".as_slice() {
         return Ok(Turn::Look);
     }
     let watch = read_act::<SheetEvent>(act)?;

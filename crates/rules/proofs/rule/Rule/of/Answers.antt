@@ -6,13 +6,11 @@ pub filled-requires : goal.filled-requires
 filled-requires g c = omega (arith, c.nodes-from.ensures.count, c.requires.few_nodes)
 
 pub invariant_of-result : goal.invariant_of-result
-invariant_of-result g c = (
-  omega (arith, c.nodes-from.ensures.count, c.requires.few_nodes),
-  (
-    omega (arith, c.promises.ensures, c.requires.few_temporal),
-    (∣ formed_at _ _ _ _ _ _ (c.filled.ensures ∙ c.nodes-from.ensures.items) c.nodes-from.ensures.count c.promises.ensures c.requires.formed ∣₁, tt),
-  ),
-)
+invariant_of-result g c = record {
+  few_nodes = omega (arith, c.nodes-from.ensures.count, c.requires.few_nodes);
+  few_promises = omega (arith, c.promises.ensures, c.requires.few_temporal);
+  formed = ∣ formed_at _ _ _ _ _ _ (c.filled.ensures ∙ c.nodes-from.ensures.items) c.nodes-from.ensures.count c.promises.ensures c.requires.formed ∣₁;
+}
 
 pub returns : goal.returns
 returns g c =

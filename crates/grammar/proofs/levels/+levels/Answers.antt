@@ -4,7 +4,7 @@ use Rattle.formulas.specs.declared.word.Word.{Word}
 use Rattle.formulas.specs.declared.binary.Binary.TheVariants.{And, Or, Implies, Iff, Until}
 use Rattle.grammar.specs.Grammar.{implication, alternative, conjunction, until, operand, a_name, a_constant, an_operand, an_until, a_part, an_and, a_conjunction, an_or, an_alternative, an_implies}
 use Rattle.grammar.proofs.Steps.{lifts, begins, finishes, joins, opened, single, prefixes, brackets, rule_alone, rule_same, few, ready_after, ready_inside, dies_until_right, dies_and_right, dies_or_right, dies_then_right, dies_same_right}
-use Rattle.grammar.proofs.levels.+alternative_conjunction_implication_operand_rule_until.Goals as goal
+use Rattle.grammar.proofs.levels.+levels.Goals as goal
 
 pub until-pass-before-requires : goal.until-pass-before-requires
 until-pass-before-requires t c = few _ _ _ c.requires.short c.in_ok-left.ensures.numbered c.if-infix_at.ensures.1

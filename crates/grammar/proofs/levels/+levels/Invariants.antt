@@ -1,7 +1,7 @@
 use Rattle.std.proofs.Common.{◌+◌, ◌-◌, ◌*◌, length}
 use Rattle.grammar.specs.Grammar.{conjunction, alternative}
 use Rattle.grammar.specs.Parts.{Took}
-use Rattle.grammar.proofs.levels.+alternative_conjunction_implication_operand_rule_until.Given as goal
+use Rattle.grammar.proofs.levels.+levels.Given as goal
 
 abbrev pub decreases-operand : goal.decreases-operand
 decreases-operand l = 6 * (length l.words.now - l.at)
