@@ -13,7 +13,7 @@ loop-rest-init g c = at_first _ _ c.args.text.now c.args.out.now
 pub loop-rest-preserved : goal.loop-rest-preserved
 loop-rest-preserved g c =
     let ne : length c.loop-rest.rest.now ≢ 0 = eqb-false (length c.loop-rest.rest.now) 0 (sym c.loop-rest-test.ensures) in
-    one_more _ _ _ _ _ _ _ _ _ c.loop-rest.invariant (omega arith) c.cut-line.ensures.cut c.report.ensures
+    one_more _ _ _ _ _ _ _ _ _ c.loop-rest.invariant (omega arith) c.cut_line.ensures.cut c.report.ensures
 
 pub returns : goal.returns
 returns g c = at_last _ _ g.met.K.Kind.apart _ _ _ _ c.loop-rest.invariant (empty c.loop-rest.rest.now (eqb-true (length c.loop-rest.rest.now) 0 (sym c.loop-rest-test.ensures)))

@@ -4,5 +4,5 @@ use Rattle.ruletext.proofs.faults.show_fault.Goals as goal
 
 pub returns : goal.returns
 returns c =
-    let number = same_text (ap decimal (c.from.ensures ∙ c.number.ensures)) c.put-number.ensures in
-    after c.put.ensures (after number (after c.put-2.ensures c.put-number-2.ensures))
+    let number = same_text (ap decimal (c.from.ensures ∙ c.number.ensures)) c.put_number.ensures in
+    after c.put.ensures (after number (after c.put-2.ensures c.put_number-2.ensures))

@@ -13,7 +13,7 @@ returns-in-Ok g c =
       answer = _;
       outcome = r.right;
       only = r.only;
-      wrote = after (same_text (ap (λ n. size_words n c.in-Ok.size.promises) r.left.0 ∙ ap (size_words (nodes (rule_formula c.read.new.self))) r.left.1) c.show-size.ensures) (after c.put.ensures (after c.show-rule.ensures c.put-in-Ok.ensures));
+      wrote = after (same_text (ap (λ n. size_words n c.in-Ok.size.promises) r.left.0 ∙ ap (size_words (nodes (rule_formula c.read.new.self))) r.left.1) c.show_size.ensures) (after c.put.ensures (after c.show_rule.ensures c.put-in-Ok.ensures));
     }
 
 pub returns-in-Err : goal.returns-in-Err
@@ -22,5 +22,5 @@ returns-in-Err g c =
       answer = _;
       outcome = c.in-Err.ensures.right;
       only = c.in-Err.ensures.only;
-      wrote = after c.show-fault.ensures (after c.put-in-Err.ensures (after c.show-text.ensures (after c.put-in-Err-2.ensures (after c.show-spaces.ensures c.put-in-Err-3.ensures))));
+      wrote = after c.show_fault.ensures (after c.put-in-Err.ensures (after c.show_text.ensures (after c.put-in-Err-2.ensures (after c.show_spaces.ensures c.put-in-Err-3.ensures))));
     }

@@ -25,18 +25,18 @@ show-requires-in-Infix-2 g t c κs within =
 pub returns-in-Name : goal.returns-in-Name
 returns-in-Name g t c =
     let h = read_node c.args.nodes.now c.args.at _ _ c.requires.inside c.in-Name.is in
-    same_text (sym (ap (shown g.K.Kind.count g.K.Kind.text) (name_formula _ _ _ h))) c.show-name.ensures
+    same_text (sym (ap (shown g.K.Kind.count g.K.Kind.text) (name_formula _ _ _ h))) c.show_name.ensures
 
 pub returns-in-Constant : goal.returns-in-Constant
 returns-in-Constant g t c =
     let h = read_node c.args.nodes.now c.args.at _ _ c.requires.inside c.in-Constant.is in
-    same_text (sym (ap (shown g.K.Kind.count g.K.Kind.text) (constant_formula _ _ _ h))) c.show-constant.ensures
+    same_text (sym (ap (shown g.K.Kind.count g.K.Kind.text) (constant_formula _ _ _ h))) c.show_constant.ensures
 
 pub returns-in-Prefix : goal.returns-in-Prefix
 returns-in-Prefix g t c =
     let h = read_node c.args.nodes.now c.args.at _ _ c.requires.inside c.in-Prefix.is in
     let lt = prefix_below _ _ _ _ _ h c.requires.stands in
-    let sign = same_text (ap (λ b. b ∷ []) c.sign.ensures) c.put-byte.ensures in
+    let sign = same_text (ap (λ b. b ∷ []) c.sign.ensures) c.put_byte.ensures in
     same_text (sym (ap (shown g.K.Kind.count g.K.Kind.text) (prefix_formula _ _ _ _ _ h lt)))
     (after c.put.ensures (after sign (after c.put-in-Prefix.ensures (after c.show.ensures c.put-in-Prefix-2.ensures))))
 
@@ -45,6 +45,6 @@ returns-in-Infix g t c =
     let h = read_node c.args.nodes.now c.args.at _ _ c.requires.inside c.in-Infix.is in
     let lt = left_below _ _ _ _ _ _ h c.requires.stands in
     let lt' = right_below _ _ _ _ _ _ h c.requires.stands in
-    let sign = same_text (ap (λ b. b ∷ []) c.sign-in-Infix.ensures) c.put-byte-in-Infix.ensures in
+    let sign = same_text (ap (λ b. b ∷ []) c.sign-in-Infix.ensures) c.put_byte-in-Infix.ensures in
     same_text (sym (ap (shown g.K.Kind.count g.K.Kind.text) (infix_formula _ _ _ _ _ _ h lt lt')))
     (after c.put-in-Infix.ensures (after c.show-in-Infix.ensures (after c.put-in-Infix-2.ensures (after sign (after c.put-in-Infix-3.ensures (after c.show-in-Infix-2.ensures c.put-in-Infix-4.ensures))))))

@@ -6,8 +6,8 @@ use Rattle.ruletext.specs.Shown.{shown}
 use Rattle.ruletext.proofs.Holding.{some_nodes, root_stands}
 use Rattle.ruletext.proofs.shown.show_rule.Goals as goal
 
-pub overflow-sub-nodes : goal.overflow-sub-nodes
-overflow-sub-nodes g c = let some = some_nodes c.args.rule.now in omega (arith, c.nodes-nodes.ensures.count)
+pub overflow_sub-nodes : goal.overflow_sub-nodes
+overflow_sub-nodes g c = let some = some_nodes c.args.rule.now in omega (arith, c.nodes-nodes.ensures.count)
 
 pub show-requires : goal.show-requires
 show-requires g c =

@@ -13,13 +13,13 @@ loop-rest-init c = (omega (arith, c.new-turns.ensures.len), rw c.new-turns.ensur
 pub loop-rest-preserved : goal.loop-rest-preserved
 loop-rest-preserved c =
     let rest = c.loop-rest.rest.now in
-    let after = c.cut-line.result.1.now in
+    let after = c.cut_line.result.1.now in
     let ne : length rest ≢ 0 = eqb-false (length rest) 0 (sym c.loop-rest-test.ensures) in
     let some : 0 < length rest = omega arith in
-    let less : length after < length rest = c.cut-line.ensures.less some in (
-      omega (arith, c.in-ok-push.ensures.len, c.loop-rest.invariant.0),
-      rw c.in-ok-push.ensures.items
-          (more (vec_items c.loop-rest.turns) rest c.cut-line.result.0.now after c.in-Ok.turn c.loop-rest.invariant.1 some c.cut-line.ensures.cut c.in-Ok.ensures.holds),
+    let less : length after < length rest = c.cut_line.ensures.less some in (
+      omega (arith, c.in_ok-push-in-Ok.ensures.len, c.loop-rest.invariant.0),
+      rw c.in_ok-push-in-Ok.ensures.items
+          (more (vec_items c.loop-rest.turns) rest c.cut_line.result.0.now after c.in-Ok.turn c.loop-rest.invariant.1 some c.cut_line.ensures.cut c.in-Ok.ensures.holds),
     )
 
 pub returns : goal.returns

@@ -6,14 +6,14 @@ use Rattle.script.proofs.Acting.{first_byte}
 use Rattle.script.proofs.OneTurn.{single, turn_exact, refused_exact}
 use Rattle.script.proofs.turn.read_first.Goals as goal
 
-pub returns-in-err-first : goal.returns-in-err-first
-returns-in-err-first c =
-    let p = err_from_is_err_and c.from-residual.result c.from-residual.ensures.1 in
-    let e = c.in-err-first.ensures in
+pub returns-in_err-first : goal.returns-in_err-first
+returns-in_err-first c =
+    let p = err_from_is_err_and c.from_residual.result c.from_residual.ensures.1 in
+    let e = c.in_err-first.ensures in
     rw (p.1, p.2)
-    (refused_exact First c.args.act.now c.in-err-first.field-0.0 (λ h. omega (arith, first_byte _ _ h)) (single _ _ e) e.holds)
+    (refused_exact First c.args.act.now c.in_err-first.field-0.0 (λ h. omega (arith, first_byte _ _ h)) (single _ _ e) e.holds)
 
 pub returns : goal.returns
 returns c =
-    let e = c.in-ok-first.ensures in
-    turn_exact First c.args.act.now (single _ _ e) (Ok (turn.First c.in-ok-first.first)) (c.args.act.now, refl, e.holds)
+    let e = c.in_ok-first.ensures in
+    turn_exact First c.args.act.now (single _ _ e) (Ok (turn.First c.in_ok-first.first)) (c.args.act.now, refl, e.holds)
