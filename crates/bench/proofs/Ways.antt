@@ -1,12 +1,11 @@
 -- The two ways of a call: the log refuses it, or it does not.
-use Rattle.std.proofs.Common.{◌≡◌, ℕ, Bool, ◌↔◌, List, Some, None, Option, sym, refl, ap, ◌∙◌, subst, arith}
+use Rattle.std.proofs.Common.{◌≡◌, ℕ, Bool, List, Some, None, Option, sym, refl, ◌∙◌, arith}
 use Rattle.answers.specs.declared.Refusal.{Refusal}
 use Rattle.answers.specs.declared.Sight.{Sight}
-use Rattle.answers.specs.declared.Reply.{Reply}
-use Rattle.answers.specs.declared.Reply.TheVariants.{Opened, Taken, Looked, Refused}
+use Rattle.answers.specs.declared.Reply.TheVariants.{Taken, Looked}
 use Rattle.bench.specs.Log.{Log, Call, Open, Take, Ask, Look, Close, refusal, grown, unless, after}
 use Rattle.bench.specs.Sight.{Sees}
-use Rattle.bench.specs.Law.{SettledCall, Answered}
+use Rattle.bench.specs.Law.{Answered}
 
 -- what holds both ways holds of the log after the call
 pub ways : {A : Type 0} (P : A → Type 0) (o : Option Refusal) (x y : A) → (o ≡ None → P x) → ((r : Refusal) → o ≡ Some r → P y) → P (unless o x y)

@@ -1,4 +1,6 @@
 // The bench: runs are opened, events taken, marks told and runs closed, over any observer.
+#![tactic(auto)]
+
 pub mod calls;
 pub mod looking;
 pub mod plain;

@@ -1,3 +1,5 @@
+#![tactic(auto)]
+
 // Tests of the crates below, each beside a second reading of the same facts that shares no code with the first.
 #[cfg(test)]
 mod lines;

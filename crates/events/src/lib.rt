@@ -1,4 +1,6 @@
 // The events of an embosser, in kinds: what struck and fed a sheet, and what the machine did.
+#![tactic(auto)]
+
 pub mod cell;
 pub mod dots;
 pub mod kind;

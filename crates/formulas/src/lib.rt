@@ -1,4 +1,6 @@
 // The words of a rule, the nodes of its formula, and the formula itself as contracts speak of it.
+#![tactic(auto)]
+
 pub mod binary;
 pub mod node;
 pub mod unary;

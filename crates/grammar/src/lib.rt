@@ -1,4 +1,6 @@
 // Words become the formula of a rule, or the first word after which they can't be one is told.
+#![tactic(auto)]
+
 ghost use Rattle.grammar.specs.Parsing.{Parsed, OneFormula, OnePlace};
 
 pub mod growth;

@@ -1,4 +1,6 @@
 // Watches sheet events, one a line of standard input, against a width: the first argument, or 40.
+#![tactic(auto)]
+
 use bench::{Calls, LookBench, Report, Slip, write_off};
 use linewatch::{Row, Step, TakeRefusal, take_line};
 use notation::LineRefusal;

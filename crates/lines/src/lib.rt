@@ -1,4 +1,6 @@
 // The lines of a text, and the number that digits write.
+#![tactic(auto)]
+
 pub mod line;
 pub mod number;
 

@@ -1,11 +1,11 @@
 -- What a look at an open run tells.
-use Rattle.std.proofs.Common.{◌≡◌, ℕ, Bool, true, false, cond, List, Some, None, Option, sym, refl, ap, ◌∙◌, subst, arith}
+use Rattle.std.proofs.Common.{◌≡◌, ℕ, Bool, true, false, cond, List, Some, None, Option, sym, refl, ◌∙◌, subst, arith}
 use Rattle.events.specs.declared.sheet.SheetEvent.{SheetEvent}
 use Rattle.events.specs.declared.sheet.SheetEvent.TheVariants.{Struck, LineEnd, SheetEnd}
 use Rattle.answers.specs.declared.Refusal.{Refusal}
 use Rattle.answers.specs.declared.Refusal.TheVariants.{NoRunOpen}
 use Rattle.answers.specs.declared.Sight.{Sight}
-use Rattle.answers.specs.declared.Sight.TheVariants.{Open, Lost, Safe}
+use Rattle.answers.specs.declared.Sight.TheVariants.{Lost}
 use Rattle.answers.specs.declared.Reply.TheVariants.{Looked, Refused}
 use Rattle.bench.specs.Log.{Log, Look, refusal}
 use Rattle.bench.specs.Sight.{Sees, LostAt}

@@ -4,7 +4,7 @@ use Rattle.events.specs.declared.sheet.SheetEvent.{SheetEvent}
 use Rattle.events.specs.declared.sheet.SheetEvent.TheVariants.{Struck, LineEnd, SheetEnd}
 use Rattle.linewatch.specs.declared.Row.{Row}
 use Rattle.linewatch.specs.declared.Step.{Step}
-use Rattle.linewatch.specs.declared.Step.TheVariants.{Struck as struck, RowClosed, Lost}
+use Rattle.linewatch.specs.declared.Step.TheVariants.{Struck as struck, RowClosed}
 
 -- one more, or the largest number of 32 bits
 abbrev pub more : ℕ → ℕ

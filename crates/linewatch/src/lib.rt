@@ -1,4 +1,6 @@
 // Lines of input, each an event that is taken on a bench with look, up to the moment when the run is lost.
+#![tactic(auto)]
+
 ghost use Rattle.std.specs.Prelude.{◌≡◌};
 ghost use Rattle.bench.specs.Calls.{LookStands};
 ghost use Rattle.linewatch.specs.Rows.{row_after, row_step};

@@ -1,4 +1,6 @@
 // How one event is written on a line of input, and the line that names the kind of events.
+#![tactic(auto)]
+
 mod digits;
 pub mod letter;
 pub mod line;

@@ -1,5 +1,5 @@
 -- One of the three cases, shown with its witnesses, is the outlook.
-use Rattle.std.proofs.Common.{◌≡◌, ℕ, Bool, true, false, not, ◌↔◌, List, [], sym, refl, ◌∙◌, arith}
+use Rattle.std.proofs.Common.{◌≡◌, ℕ, Bool, true, false, List, [], sym, refl, ◌∙◌, arith}
 use Rattle.observers.specs.declared.observer.Outlook.{Outlook}
 use Rattle.observers.specs.declared.observer.Outlook.TheVariants.{Lost, Safe, Open}
 use Rattle.observers.specs.Foresight.{Every, One, Foresees}

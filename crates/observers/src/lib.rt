@@ -1,4 +1,6 @@
 // Observers and the layers over them: what an observer means, its complement, both of two, and ports.
+#![tactic(auto)]
+
 pub mod both;
 pub mod complement;
 pub mod observer;

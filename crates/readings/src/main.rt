@@ -1,4 +1,6 @@
 // Reads each rule text of a table twice, by the library and by a second reading that shares no code with it, and tells where they differ.
+#![tactic(auto)]
+
 mod completion;
 mod refusal;
 mod second;

@@ -1,4 +1,6 @@
 // Re-enacts a script of turns, one a line on the standard input, at four new benches over line rulers.
+#![tactic(auto)]
+
 mod reading;
 mod telling;
 

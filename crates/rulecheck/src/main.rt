@@ -1,4 +1,6 @@
 // Shows how the rules of an input are taken: the first line is `s` or `m`, every further line a rule.
+#![tactic(auto)]
+
 use output::Writer;
 use ruletext::check_rules;
 use std::io;

@@ -1,4 +1,6 @@
 // A rule text becomes a rule record, or a refusal with its place.
+#![tactic(auto)]
+
 pub mod lexer;
 pub mod limits;
 pub mod reading;

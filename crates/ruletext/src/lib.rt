@@ -1,4 +1,6 @@
 // A rule text with what it is taken for: its size and formula, or its fault and a mark under the place.
+#![tactic(auto)]
+
 pub mod checks;
 pub mod faults;
 pub mod reports;

@@ -1,4 +1,6 @@
 // A script of turns: how a turn is written on a line, and what a reply is in words.
+#![tactic(auto)]
+
 mod act;
 pub mod line;
 pub mod number;

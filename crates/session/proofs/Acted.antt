@@ -7,7 +7,7 @@ use Rattle.answers.specs.declared.Refusal.{Refusal}
 use Rattle.answers.specs.declared.Report.{Report}
 use Rattle.answers.specs.declared.Reply.{Reply}
 use Rattle.answers.specs.declared.Reply.TheVariants.{Opened, Closed, Refused}
-use Rattle.bench.specs.Log.{Log, Call, Open, Take, Ask, Close, Exchange}
+use Rattle.bench.specs.Log.{Log, Call, Open, Take, Ask, Close}
 use Rattle.bench.specs.Calls.{Lawful, open_reply, close_reply}
 use Rattle.session.specs.declared.turn.Act.{Act}
 use Rattle.session.specs.declared.turn.Act.TheVariants.{Open as opens, Take as takes, Ask as asks, Close as closes}

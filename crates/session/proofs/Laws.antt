@@ -7,15 +7,14 @@ use Rattle.sheets.specs.Ports.{flow}
 use Rattle.bench.specs.declared.slip.Slip.{Slip}
 use Rattle.answers.specs.declared.Refusal.{Refusal}
 use Rattle.answers.specs.declared.Reply.{Reply}
-use Rattle.answers.specs.declared.Reply.TheVariants.{Opened, Taken, Told, Looked, Closed, Refused}
+use Rattle.answers.specs.declared.Reply.TheVariants.{Opened, Taken, Looked, Refused}
 use Rattle.bench.specs.Log.{Log, fresh, Call, Open, Take, Ask, Look, Close, refusal, Exchange, after, log_from, At}
 use Rattle.bench.specs.Law.{Answered}
 use Rattle.session.specs.declared.turn.Turn.{Turn}
 use Rattle.session.specs.declared.script.Numbers.{Numbers}
 use Rattle.session.specs.Acts.{AllAnswered}
 use Rattle.session.specs.Histories.{Histories, begun, Performed}
-use Rattle.session.specs.Desks.{Seat, StandsAfter}
-use Rattle.session.specs.Sessions.{seated, mark_of, SameFlow, Replayed}
+use Rattle.session.specs.Sessions.{mark_of, SameFlow, Replayed}
 
 -- a flow port keeps a run when its flow is kept below
 abbrev pub over_flow : {X : Type 0} → (X → List SheetEvent → Bool) → Port Flow X → List SheetEvent → Bool

@@ -1,5 +1,5 @@
 -- One turn more.
-use Rattle.std.proofs.Common.{◌≡◌, ℕ, Bool, List, [], ◌∷◌, ◌++◌, Option, sym, refl, ap, ◌∙◌, subst}
+use Rattle.std.proofs.Common.{◌≡◌, ℕ, Bool, List, [], ◌∷◌, ◌++◌, Option, sym, refl, subst}
 use Rattle.answers.specs.declared.Reply.{Reply}
 use Rattle.bench.specs.Log.{Log, fresh, Call, Exchange, after, log_from, log_of}
 use Rattle.bench.specs.Calls.{Lawful}

@@ -1,4 +1,6 @@
 // A session: turns at four new benches, with one pool of slips, and the law of the bench over all of it.
+#![tactic(auto)]
+
 mod desk;
 mod perform;
 pub mod script;

@@ -1,4 +1,6 @@
 // What watches sheets: the line ruler, and the ports that turn events into sheet events.
+#![tactic(auto)]
+
 pub mod measure;
 pub mod ports;
 pub mod ruler;

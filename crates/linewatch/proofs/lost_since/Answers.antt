@@ -1,5 +1,4 @@
-use Rattle.std.proofs.Common.{◌≡◌, ℕ, sym, ◌∙◌, arith}
-use Rattle.answers.specs.declared.Sight.TheVariants.{Open, Lost, Safe}
+use Rattle.std.proofs.Common.{◌≡◌, ℕ, arith}
 use Rattle.linewatch.proofs.Seen.{not_refused, lost, not_lost}
 use Rattle.linewatch.proofs.lost_since.Goals as goal
 

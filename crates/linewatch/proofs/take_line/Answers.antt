@@ -1,4 +1,4 @@
-use Rattle.std.proofs.Common.{◌≡◌, Bool, true, [], ◌∷◌, ◌++◌, refl, subst}
+use Rattle.std.proofs.Common.{◌≡◌, true, [], ◌∷◌, ◌++◌, refl, subst}
 use Rattle.events.specs.declared.sheet.SheetEvent.{SheetEvent}
 use Rattle.bench.specs.Log.{Log, Take, grown}
 use Rattle.bench.specs.Calls.{LookStands}

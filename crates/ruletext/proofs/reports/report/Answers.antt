@@ -1,8 +1,7 @@
 use Rattle.std.proofs.Common.{ap, ◌∙◌}
-use Rattle.formulas.specs.Formulas.{nodes, promises}
+use Rattle.formulas.specs.Formulas.{nodes}
 use Rattle.output.proofs.Chains.{after, same_text}
 use Rattle.rules.specs.Reading.{rule_formula}
-use Rattle.rules.specs.Outcomes.{read}
 use Rattle.ruletext.specs.Reports.{size_words}
 use Rattle.ruletext.proofs.reports.report.Goals as goal
 

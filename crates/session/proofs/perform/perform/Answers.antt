@@ -1,4 +1,4 @@
-use Rattle.std.proofs.Common.{◌≡◌, ◌<◌, ◌≤◌, List, length, vec_items, refl, ap, ◌∙◌, arith}
+use Rattle.std.proofs.Common.{◌<◌, ◌≤◌, List, length, vec_items, refl, ap, ◌∙◌, arith}
 use Rattle.bench.specs.declared.slip.Slip.{Slip}
 use Rattle.bench.specs.Calls.{take_reply, ask_reply}
 use Rattle.session.specs.Acts.{restored}

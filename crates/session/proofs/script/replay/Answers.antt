@@ -1,4 +1,4 @@
-use Rattle.std.proofs.Common.{◌≡◌, ℕ, ◌+◌, Bool, List, [], ◌∷◌, ◌++◌, length, vec_items, Option, sym, refl, ap, ◌∙◌, subst, append_assoc, append-nil, arith}
+use Rattle.std.proofs.Common.{◌≡◌, ℕ, Bool, List, [], ◌∷◌, ◌++◌, length, vec_items, Option, sym, refl, ap, ◌∙◌, subst, append_assoc, append-nil, arith}
 use Rattle.std.specs.Vec.Iter.{into_iter_items}
 use Rattle.std.proofs.lemmas.Result.{err_from_is_err_and}
 use Rattle.events.specs.declared.sheet.SheetEvent.{SheetEvent}
@@ -11,7 +11,7 @@ use Rattle.bench.specs.declared.plain.Bench.{Bench}
 use Rattle.bench.specs.Log.{fresh}
 use Rattle.bench.specs.Calls.{Stands}
 use Rattle.session.specs.declared.turn.Turn.{Turn}
-use Rattle.session.specs.Histories.{Histories, begun, Performed, nothing}
+use Rattle.session.specs.Histories.{begun, Performed, nothing}
 use Rattle.session.specs.Sessions.{seated}
 use Rattle.session.proofs.Turned.{performed_more}
 use Rattle.session.proofs.Laws.{over_flow, replayed}

@@ -1,6 +1,5 @@
 use Rattle.std.proofs.Common.{◌≡◌, true, sym, refl, ap, subst}
 use Rattle.bench.specs.declared.plain.Bench.{Bench}
-use Rattle.bench.specs.declared.looking.LookBench.{LookBench}
 use Rattle.bench.specs.Log.{Log, Take, grown}
 use Rattle.bench.specs.Calls.{Stands, LookStands, Remembers}
 use Rattle.bench.proofs.Ways.{grows, stays}

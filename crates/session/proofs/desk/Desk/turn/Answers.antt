@@ -1,11 +1,11 @@
-use Rattle.std.proofs.Common.{◌≡◌, List, ◌++◌, Some, vec_items, sym, refl, subst, arith}
+use Rattle.std.proofs.Common.{List, ◌++◌, Some, vec_items, sym, refl, subst, arith}
 use Rattle.bench.specs.declared.slip.Slip.{Slip}
 use Rattle.answers.specs.declared.Reply.{Reply}
 use Rattle.bench.specs.Log.{Look}
 use Rattle.bench.specs.Calls.{LookStands, Lawful}
 use Rattle.session.specs.declared.turn.Turn.{Turn}
 use Rattle.session.specs.Acts.{exchange, Done}
-use Rattle.session.specs.Histories.{Histories, Noted, watched, looked, plainly, firstly, secondly}
+use Rattle.session.specs.Histories.{Noted, watched, looked, plainly, firstly, secondly}
 use Rattle.session.proofs.Turned.{stands_more, one_goes}
 use Rattle.session.proofs.desk.Desk.turn.Goals as goal
 
