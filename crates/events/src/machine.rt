@@ -1,7 +1,7 @@
 ghost use Rattle.std.specs.Prelude.{◌≡◌, ◌<◌, ◌≤◌, MatchOption};
 ghost use Rattle.events.specs.Rooms.{room};
 ghost use Rattle.events.specs.Machines.{MachineMade, action_of, machine_name, machine_number, machine_name_at, machine_text, machine_example};
-ghost use Rattle.std.proofs.Common.{rules, arith};
+ghost use Rattle.std.proofs.Common.{rules};
 
 use crate::cell::Cell;
 use crate::kind::Kind;
@@ -145,17 +145,17 @@ impl Kind for MachineEvent {
 
     ghost example = { λ n. machine_example (machine_name_at n) };
 
-    ghost some = { first_of (Prim.search rules, Prim.grind (arith, Self.row.coded.inj)) };
+    ghost some = { Prim.search rules };
 
-    ghost few = { first_of (Prim.search rules, Prim.grind (arith, Self.row.coded.inj)) };
+    ghost few = { Prim.search rules };
 
-    ghost below = { first_of (Prim.search rules, Prim.grind (arith, Self.row.coded.inj)) };
+    ghost below = { Prim.search rules };
 
-    ghost labels = { first_of (Prim.search rules, Prim.grind (arith, Self.row.coded.inj)) };
+    ghost labels = { Prim.search rules };
 
-    ghost apart = { first_of (Prim.search rules, Prim.grind (arith, Self.row.coded.inj)) };
+    ghost apart = { Prim.search rules };
 
-    ghost samples = { first_of (Prim.search rules, Prim.grind (arith, Self.row.coded.inj)) };
+    ghost samples = { Prim.search rules };
 
     fn total() -> u8 {
         Self::NAMES
