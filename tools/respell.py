@@ -4,9 +4,10 @@
 usage: python3 tools/respell.py [--list]      at the top of the repository, once, right after the kit's port.py
 
 Facts and types are written in upper camel case, everything else in snake case; a dash becomes an underscore.
-Answers, invariants and other names that the check makes keep theirs, and so does all that src/ declares.
-It rewrites crates/**/*.antt, the clauses and ghost lines of crates/**/*.rt, and names between backticks in README.md and docs/.
-With --list it writes nothing and prints each old name with its new one. It stops where two names would fall together.
+A name in upper camel case that is neither, as that of a constructor, stays. Names that the check makes stay: those of answers, invariants and measures.
+One table serves all crates. It rewrites crates/**/*.antt whole, crates/**/*.rt outside strings and comments, and what stands between backticks in README.md and docs/.
+A name that an import gives with `as` stays.
+With --list it writes nothing and prints each old name with its new one. It stops where a new name is in use already.
 """
 
 import collections
@@ -17,7 +18,7 @@ import sys
 
 WORD = r"[^\s(){}\[\].,;:@\"`]+"
 # A dash stays where it joins the names of two functions.
-JOINED = {"length-hexLine": "length-hex_line"}
+JOINED = {"length-hexLine": "length-hex_line", "length-hex_line": "length-hex_line"}
 
 
 def files(ending):
@@ -41,7 +42,7 @@ def names():
             typed = "record" in words or "data" in words
             if not typed and not rest.startswith(" : "):
                 continue
-            if re.match(r"^ : (goal|need|given|rules)\.", rest):
+            if re.match(r"^ : goal\.", rest):
                 made.add(name)
                 continue
             fact = typed or bool(re.search(r"(→|:) Type \d$", rest))
@@ -92,6 +93,8 @@ def turn_page(s, turned):
 def main():
     if not os.path.isdir("crates"):
         sys.exit("respell: run it at the top of the repository")
+    if any("Rattle\u00b7" in text(p) for p in files(".antt")):
+        sys.exit("respell: run the kit's port.py first")
     own, turned = table()
     seen = set()
     for path in files(".antt"):
@@ -106,9 +109,7 @@ def main():
         for m in re.finditer(r"use (Rattle\.(\w+)\.[\w.]+)\.\{([^}]*)\}", text(path)):
             if not os.path.isdir("crates/" + m.group(2)):
                 outside |= {w for w in re.split(r"[,\s]+", m.group(3)) if w}
-    for a in list(turned):
-        if a in outside:
-            clash.append((a, "is the library's too"))
+    clash += [(a, turned[a] + ", but the library has " + a) for a in turned if a in outside]
     if "--list" in sys.argv:
         for a, b in turned.items():
             print(a, b)
