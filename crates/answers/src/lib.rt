@@ -1,8 +1,12 @@
 // What the calls on a bench answer.
 #![tactic(auto)]
 
-ghost use Rattle.std.specs.Prelude.{◌≡◌};
 ghost use Rattle.answers.specs.Numbers.{refusal_number};
+ghost use Rattle.std.proofs.Common.{rules};
+
+mod words;
+
+use numbered::Numbered;
 
 // Why a call on a bench is refused, with the number that a refusal is known by.
 #[derive(Clone, Copy, PartialEq, Eq, Debug)]
@@ -13,10 +17,12 @@ pub enum Refusal {
     SlipNotOfRun = 34,
 }
 
-impl Refusal {
-    pub fn number(self) -> u8
-        ensures { result ≡ refusal_number self }
-    {
+impl Numbered for Refusal {
+    ghost number = { refusal_number };
+
+    ghost apart = { Prim.search rules };
+
+    fn number(self) -> u8 {
         self as u8
     }
 }
@@ -37,7 +43,7 @@ pub enum Sight {
 }
 
 // What a call on a bench is answered: an opened run by the bench's number and the run's.
-#[derive(Clone, Copy)]
+#[derive(Clone, Copy, PartialEq, Eq, Debug)]
 pub enum Reply {
     Opened(u16, u16),
     Taken,

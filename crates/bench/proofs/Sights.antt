@@ -10,8 +10,9 @@ use Rattle.answers.specs.declared.Sight.TheVariants.{Open, Lost, Safe}
 use Rattle.bench.specs.Sight.{beyond, LostAt, SafeAt, Sees}
 use Rattle.bench.specs.Calls.{Remembers, sight_at, SeenAfter}
 
-differ : true ≡ false → ⊥
-differ e = let z : ◌≡◌ {A = ℕ} 0 1 = cc in omega arith
+-- after each smaller number of events than the run has, it was open
+abbrev pub OpenBefore : {E : Type 0} → (List E → Bool) → List E → Type 0
+OpenBefore rule run = (m : ℕ) → m < length run → One (beyond rule run m) true × One (beyond rule run m) false
 
 -- the look at a run
 module _ {E : Type 0} (rule : List E → Bool) (run : List E) where
@@ -23,35 +24,38 @@ module _ {E : Type 0} (rule : List E → Bool) (run : List E) where
 
   apart : (n m : ℕ) → LostAt rule run n → SafeAt rule run m → ⊥
   apart n m p q = ⊎_elim
-      (λ h. differ (sym (later true m m (omega arith) q.always) ∙ later false n m (omega arith) p.never))
-      (λ h. differ (sym (later true m n h q.always) ∙ later false n n (omega arith) p.never))
+      (λ h. cc (later true m m (omega arith) q.always, later false n m (omega arith) p.never))
+      (λ h. cc (later true m n h q.always, later false n n (omega arith) p.never))
       (cases_lt n m)
 
   lost_once : (n m : ℕ) → LostAt rule run n → LostAt rule run m → n ≤ m
-  lost_once n m p q = ⊎_elim (λ h. absurd (differ (sym (p.first m h).1 ∙ q.never (p.first m h).0))) (λ h. h) (cases_lt m n)
+  lost_once n m p q = ⊎_elim (λ h. absurd (cc ((p.first m h).1, q.never (p.first m h).0))) (λ h. h) (cases_lt m n)
 
   safe_once : (n m : ℕ) → SafeAt rule run n → SafeAt rule run m → n ≤ m
-  safe_once n m p q = ⊎_elim (λ h. absurd (differ (sym (q.always (p.first m h).0) ∙ (p.first m h).1))) (λ h. h) (cases_lt m n)
+  safe_once n m p q = ⊎_elim (λ h. absurd (cc (q.always (p.first m h).0, (p.first m h).1))) (λ h. h) (cases_lt m n)
 
   pub looks : (s : Sight) → Remembers rule run s → Sees rule run s
-  looks Open w = record {
-    lost = λ n. (λ e. let z : ◌≡◌ {A = ℕ} 0 1 = cc in absurd (omega arith), λ p. absurd (differ (sym (w n p.reached).0.1 ∙ p.never (w n p.reached).0.0)));
-    safe = λ n. (λ e. let z : ◌≡◌ {A = ℕ} 0 1 = cc in absurd (omega arith), λ p. absurd (differ (sym (p.always (w n p.reached).1.0) ∙ (w n p.reached).1.1)));
-    otherwise = (λ _. (λ n p. differ (sym (w n p.reached).0.1 ∙ p.never (w n p.reached).0.0), λ n p. differ (sym (p.always (w n p.reached).1.0) ∙ (w n p.reached).1.1)), λ _. refl);
-  }
+  looks Open w =
+      let not_lost : (n : ℕ) → LostAt rule run n → ⊥ = λ n p. cc ((w n p.reached).0.1, p.never (w n p.reached).0.0) in
+      let not_safe : (n : ℕ) → SafeAt rule run n → ⊥ = λ n p. cc (p.always (w n p.reached).1.0, (w n p.reached).1.1) in
+      record {
+        lost = λ n. (λ e. cc, λ p. absurd (not_lost n p));
+        safe = λ n. (λ e. cc, λ p. absurd (not_safe n p));
+        otherwise = (λ _. (not_lost, not_safe), λ _. refl);
+      }
   looks (Lost k) w = record {
     lost = λ n. (λ e. let j : k ≡ n = cc in subst (λ (i : ℕ). LostAt rule run i) j w, λ p. let j : k ≡ n = omega (arith, lost_once k n w p, lost_once n k p w) in ap Lost j);
-    safe = λ n. (λ e. let z : ◌≡◌ {A = ℕ} 0 1 = cc in absurd (omega arith), λ p. absurd (apart k n w p));
-    otherwise = (λ e. let z : ◌≡◌ {A = ℕ} 0 1 = cc in absurd (omega arith), λ p. absurd (p.0 k w));
+    safe = λ n. (λ e. cc, λ p. absurd (apart k n w p));
+    otherwise = (λ e. cc, λ p. absurd (p.0 k w));
   }
   looks (Safe k) w = record {
-    lost = λ n. (λ e. let z : ◌≡◌ {A = ℕ} 0 1 = cc in absurd (omega arith), λ p. absurd (apart n k p w));
+    lost = λ n. (λ e. cc, λ p. absurd (apart n k p w));
     safe = λ n. (λ e. let j : k ≡ n = cc in subst (λ (i : ℕ). SafeAt rule run i) j w, λ p. let j : k ≡ n = omega (arith, safe_once k n w p, safe_once n k p w) in ap Safe j);
-    otherwise = (λ e. let z : ◌≡◌ {A = ℕ} 0 1 = cc in absurd (omega arith), λ p. absurd (p.1 k w));
+    otherwise = (λ e. cc, λ p. absurd (p.1 k w));
   }
 
   -- where the outlook is asked: after each smaller number of events the run was open
-  pub arrive : (rest : List E → Bool) (o : Outlook) (k : ℕ) → k ≡ length run → ((m : ℕ) → m < length run → One (beyond rule run m) true × One (beyond rule run m) false) → ((t : List E) → rest t ≡ rule (run ++ t)) → Foresees rest o → Remembers rule run (sight_at o k)
+  pub arrive : (rest : List E → Bool) (o : Outlook) (k : ℕ) → k ≡ length run → OpenBefore rule run → ((t : List E) → rest t ≡ rule (run ++ t)) → Foresees rest o → Remembers rule run (sight_at o k)
   arrive rest outlookLost k e w is f = record { reached = omega arith; never = λ t. ap (λ (r : List E). rule (r ++ t)) (take_all k run (omega arith)) ∙ sym (is t) ∙ f.lost.0 refl t; first = λ m h. (w m (omega arith)).0 }
   arrive rest outlookSafe k e w is f = record { reached = omega arith; always = λ t. ap (λ (r : List E). rule (r ++ t)) (take_all k run (omega arith)) ∙ sym (is t) ∙ f.safe.0 refl t; first = λ m h. (w m (omega arith)).1 }
   arrive rest outlookOpen k e w is f = λ m h. ⊎_elim (λ below. w m below)
@@ -59,7 +63,7 @@ module _ {E : Type 0} (rule : List E → Bool) (run : List E) where
       ((p.0.0, at p.0.0 ∙ p.0.1), (p.1.0, at p.1.0 ∙ p.1.1)))
       (cases_lt m (length run))
 
-  pub seen_now : (rest : List E → Bool) (k : ℕ) (s : Sight) → k ≡ length run → ((m : ℕ) → m < length run → One (beyond rule run m) true × One (beyond rule run m) false) → ((t : List E) → rest t ≡ rule (run ++ t)) → SeenAfter rest k s → Remembers rule run s
+  pub seen_now : (rest : List E → Bool) (k : ℕ) (s : Sight) → k ≡ length run → OpenBefore rule run → ((t : List E) → rest t ≡ rule (run ++ t)) → SeenAfter rest k s → Remembers rule run s
   seen_now rest k s e w is p = subst (λ (v : Sight). Remembers rule run v) (sym p.2) (arrive rest p.0 k e w is p.1)
 
 -- one event more
@@ -70,7 +74,7 @@ module _ {E : Type 0} (rule : List E → Bool) (run : List E) (x : E) where
   longer : length (run ++ (x ∷ [])) ≡ length run + 1
   longer = length-append run (x ∷ [])
 
-  pub open_before : Remembers rule run Open → (m : ℕ) → m < length (run ++ (x ∷ [])) → One (beyond rule (run ++ (x ∷ [])) m) true × One (beyond rule (run ++ (x ∷ [])) m) false
+  pub open_before : Remembers rule run Open → OpenBefore rule (run ++ (x ∷ []))
   open_before w m h =
       let le : m ≤ length run = omega (arith, longer) in
       let p = w m le in
@@ -80,9 +84,3 @@ module _ {E : Type 0} (rule : List E → Bool) (run : List E) (x : E) where
   lasts Open closed w = absurd (closed refl)
   lasts (Lost n) closed w = record { reached = omega (arith, longer, w.reached); never = λ t. again n w.reached t ∙ w.never t; first = λ m h. let q = w.first m h in (q.0, again m (omega (arith, w.reached)) q.0 ∙ q.1) }
   lasts (Safe n) closed w = record { reached = omega (arith, longer, w.reached); always = λ t. again n w.reached t ∙ w.always t; first = λ m h. let q = w.first m h in (q.0, again m (omega (arith, w.reached)) q.0 ∙ q.1) }
-
-  -- the outlook is followed while the run is open
-  pub followed : (rest : List E → Bool) (k : ℕ) (s v : Sight) → k ≡ length (run ++ (x ∷ [])) → ((t : List E) → rest t ≡ rule ((run ++ (x ∷ [])) ++ t)) → Remembers rule run s → (s ≡ Open → SeenAfter rest k v) → ((s ≡ Open → ⊥) → v ≡ s) → Remembers rule (run ++ (x ∷ [])) v
-  followed rest k Open v e is w asked kept = seen_now rule (run ++ (x ∷ [])) rest k v e (open_before w) is (asked refl)
-  followed rest k (Lost n) v e is w asked kept = let c : Lost n ≡ Open → ⊥ = λ p. let z : ◌≡◌ {A = ℕ} 0 1 = cc in omega arith in subst (λ (y : Sight). Remembers rule (run ++ (x ∷ [])) y) (sym (kept c)) (lasts (Lost n) c w)
-  followed rest k (Safe n) v e is w asked kept = let c : Safe n ≡ Open → ⊥ = λ p. let z : ◌≡◌ {A = ℕ} 0 1 = cc in omega arith in subst (λ (y : Sight). Remembers rule (run ++ (x ∷ [])) y) (sym (kept c)) (lasts (Safe n) c w)

@@ -1,5 +1,6 @@
 -- How a bench stands at its log, and the law of each call.
-use Rattle.std.specs.Prelude.{◌≡◌, ℕ, ◌≤◌, Bool, true, false, List, ◌++◌, length, Ok, Err, Result}
+use Rattle.std.specs.Prelude.{◌≡◌, ℕ, ◌≤◌, Bool, true, false, List, ◌++◌, length, None, Ok, Err, Option, Result, is_some, IfSome, IsSomeAnd, MatchOption}
+use Rattle.std.specs.Result.{result_map_both}
 use Rattle.bench.specs.declared.slip.Slip.{Slip}
 use Rattle.answers.specs.declared.Refusal.{Refusal}
 use Rattle.answers.specs.declared.Report.{Report}
@@ -21,8 +22,8 @@ pub record Stands {E O : Type 0} (rules rests : O → List E → Bool) (n : ℕ)
   pub number_is : b.number ≡ n
   pub rule_is : rules b.observer ≡ rule
   pub opened_is : b.opened ≡ l.opened
-  pub running_is : b.running ≡ l.running
-  pub counted : b.count ≡ length l.run
+  pub running_is : is_some b.count ≡ l.running
+  pub counted : IfSome b.count (λ k. k ≡ length l.run)
   pub rests_at : l.running ≡ true → (t : List E) → rests b.observer t ≡ rule (l.run ++ t)
 
 -- what a bench with look remembers of its run: open after each number of events so far, or since when it is lost or safe
@@ -41,32 +42,37 @@ sight_at outlookOpen n = Open
 abbrev pub SeenAfter : {E : Type 0} → (List E → Bool) → ℕ → Sight → Type 0
 SeenAfter rest n s = (o : Outlook) × Foresees rest o × (s ≡ sight_at o n)
 
--- a bench with look stands at the log l where the bench inside does, and it remembers what can be seen of the open run
+-- what is remembered once the outlook of the bench's open run was asked, if one is open
+abbrev pub SeenNow : {E O : Type 0} → (O → List E → Bool) → Bench O → Option Sight → Type 0
+SeenNow rests b s = MatchOption b.count (s ≡ None) (λ n. IsSomeAnd s (SeenAfter (rests b.observer) n))
+
+-- a bench with look stands at the log l where the bench inside does, and while a run is open it remembers what can be seen of it
 pub record LookStands {E O : Type 0} (rules rests : O → List E → Bool) (n : ℕ) (rule : List E → Bool) (b : LookBench O) (l : Log E) : Type 0 where
   pub bare : Stands rules rests n rule b.bench l
-  pub sighted : l.running ≡ true → Remembers rule l.run b.sight
+  pub looking_is : is_some b.sight ≡ l.running
+  pub sighted : IfSome b.sight (Remembers rule l.run)
 
 -- the law of a call c that is answered r: whatever log the bench stands at, the answer is what that log settles, and the bench then stands at the log after the call
 abbrev pub Lawful : {E B : Type 0} → (ℕ → (List E → Bool) → B → Log E → Type 0) → B → Call E → Reply → B → Type 0
 Lawful {E} S b c r b' = (n : ℕ) (rule : List E → Bool) (l : Log E) → S n rule b l → Answered n rule l c r × S n rule b' (after n l c)
 
--- the answers of the calls, as one type
+-- the answer of a call, as one type: what is told of its value, or the refusal
+abbrev pub reply_of : {A : Type 0} → (A → Reply) → Result A Refusal → Reply
+reply_of told (Ok x) = told x
+reply_of told (Err x) = Refused x
+
 abbrev pub open_reply : Result Slip Refusal → Reply
-open_reply (Ok s) = Opened s.bench s.run
-open_reply (Err x) = Refused x
+open_reply r = reply_of (λ s. Opened s.bench s.run) r
 
 abbrev pub take_reply : Result (Unit {0}) Refusal → Reply
-take_reply (Ok u) = Taken
-take_reply (Err x) = Refused x
+take_reply r = reply_of (λ _. Taken) r
 
 abbrev pub ask_reply : Result Report Refusal → Reply
-ask_reply (Ok p) = Told p
-ask_reply (Err x) = Refused x
+ask_reply r = reply_of Told r
 
 abbrev pub look_reply : Result Sight Refusal → Reply
-look_reply (Ok s) = Looked s
-look_reply (Err x) = Refused x
+look_reply r = reply_of Looked r
 
+-- a close that is refused hands the slip back beside
 abbrev pub close_reply : Result Report (Slip × Refusal) → Reply
-close_reply (Ok p) = Closed p
-close_reply (Err p) = Refused p.1
+close_reply r = reply_of Closed (result_map_both (λ p. p) (λ p. p.1) r)

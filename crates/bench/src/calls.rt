@@ -8,6 +8,7 @@ use answers::{Refusal, Report};
 
 // The calls that every bench has.
 //     stands   a bench of this number, over an observer of this rule, stands at this log
+//     same     a refused call leaves the bench as it was: a fact about two benches, which no invariant of one can hold
 pub trait Calls {
     type Event: Drop;
 
@@ -26,7 +27,8 @@ pub trait Calls {
     fn ask(&self) -> Result<Report, Refusal>
         ensures { Lawful stands self.now asking (ask_reply result) self.now };
 
-    // Tells what ask tells and ends the run, or hands the slip back.
+    // Tells what ask tells and ends the run, or hands the slip back. What is handed back is a pair: whoever takes it parts it at
+    // once, so a struct of its own would be no plainer.
     fn close(&mut self, slip: Slip) -> Result<Report, (Slip, Refusal)>
         ensures law { Lawful stands self.old (closing slip) (close_reply result) self.new }
         ensures back { IfErr result (λ p. p.0 ≡ slip) }

@@ -10,4 +10,4 @@ pub use answers::{Refusal, Reply, Report, Sight};
 pub use calls::Calls;
 pub use looking::LookBench;
 pub use plain::Bench;
-pub use slip::{Slip, write_off};
+pub use slip::{Slip, write_off, write_off_all};

@@ -1,7 +1,7 @@
 ghost use Rattle.std.specs.Prelude.{◌≡◌, ◌≢◌};
 ghost use Rattle.bench.specs.Log.{fresh};
 ghost use Rattle.bench.specs.Log.{Look as looking};
-ghost use Rattle.bench.specs.Calls.{LookStands, Lawful, look_reply, sight_at, SeenAfter};
+ghost use Rattle.bench.specs.Calls.{LookStands, Lawful, look_reply, sight_at, SeenNow};
 
 use crate::calls::Calls;
 use crate::plain::Bench;
@@ -9,13 +9,14 @@ use crate::slip::Slip;
 use answers::{Refusal, Report, Sight};
 use observers::{FarSighted, Outlook};
 
-// A bench that also follows the outlook, from the opening on.
+// A bench that also follows the outlook of the open run, from the opening on. Where no run is open there is no sight.
 #[derive(Drop)]
 pub struct LookBench<O> {
     bench: Bench<O>,
-    sight: Sight,
+    sight: Option<Sight>,
 }
 
+// An outlook with its count; one enum over what stands with a case would have every observer write `Lost(())`.
 fn sight_at(outlook: Outlook, count: u32) -> Sight
     ensures { result ≡ sight_at outlook count }
 {
@@ -32,27 +33,32 @@ impl<O: FarSighted> LookBench<O> {
     {
         LookBench {
             bench: Bench::new(number, observer),
-            sight: Sight::Open,
+            sight: None,
         }
     }
 
     pub fn look(&self) -> Result<Sight, Refusal>
         ensures { Lawful (LookStands O.Observer.rule O.Observer.rest) self.now looking (look_reply result) self.now }
     {
-        if !self.bench.running {
-            return Err(Refusal::NoRunOpen);
-        }
-        Ok(self.sight)
+        self.sight.ok_or(Refusal::NoRunOpen)
+    }
+
+    // What the outlook of the open run is as it stands.
+    fn seen(&self) -> Option<Sight>
+        ensures { SeenNow O.Observer.rest self.now.bench result }
+    {
+        let count = self.bench.count?;
+        Some(sight_at(self.bench.observer.outlook(), count))
     }
 
     // While the run is open to both, its outlook is asked again.
     fn follow(&mut self)
         ensures bench { self.new.bench ≡ self.old.bench }
-        ensures asked { self.old.sight ≡ Sight.Open → SeenAfter (O.Observer.rest self.old.bench.observer) self.old.bench.count self.new.sight }
-        ensures kept { (self.old.sight ≢ Sight.Open) → self.new.sight ≡ self.old.sight }
+        ensures asked { self.old.sight ≡ Some Sight.Open → SeenNow O.Observer.rest self.old.bench self.new.sight }
+        ensures kept { (self.old.sight ≢ Some Sight.Open) → self.new.sight ≡ self.old.sight }
     {
-        if let Sight::Open = self.sight {
-            self.sight = sight_at(self.bench.observer.outlook(), self.bench.count);
+        if let Some(Sight::Open) = self.sight {
+            self.sight = self.seen();
         }
     }
 }
@@ -66,20 +72,13 @@ where
     ghost stands = { LookStands O.Observer.rule O.Observer.rest };
 
     fn open(&mut self) -> Result<Slip, Refusal> {
-        match self.bench.open() {
-            Err(refusal) => Err(refusal),
-            Ok(slip) => {
-                self.sight = Sight::Open;
-                self.follow();
-                Ok(slip)
-            }
-        }
+        let slip = self.bench.open()?;
+        self.sight = self.seen();
+        Ok(slip)
     }
 
     fn take(&mut self, e: O::Event) -> Result<(), Refusal> {
-        if let Err(refusal) = self.bench.take(e) {
-            return Err(refusal);
-        }
+        self.bench.take(e)?;
         self.follow();
         Ok(())
     }
@@ -89,6 +88,8 @@ where
     }
 
     fn close(&mut self, slip: Slip) -> Result<Report, (Slip, Refusal)> {
-        self.bench.close(slip)
+        let report = self.bench.close(slip)?;
+        self.sight = None;
+        Ok(report)
     }
 }

@@ -11,13 +11,12 @@ const MOST_RUNS: u16 = 65_535;
 
 const MOST_EVENTS: u32 = 1_000_000;
 
-// The count is of the events of the run that was opened last.
+// The count is of the events of the open run, if one is open.
 #[derive(Drop)]
 pub struct Bench<O> {
     number: u16,
     opened: u16,
-    pub(crate) running: bool,
-    pub(crate) count: u32,
+    pub(crate) count: Option<u32>,
     pub(crate) observer: O,
 }
 
@@ -28,19 +27,18 @@ impl<O: Observer> Bench<O> {
         Bench {
             number,
             opened: 0,
-            running: false,
-            count: 0,
+            count: None,
             observer,
         }
     }
 
-    fn report(&self) -> Report
+    fn report(&self, count: u32) -> Report
         ensures mark { result.mark ≡ O.Observer.rest self.now.observer [] }
-        ensures count { result.count ≡ self.now.count }
+        ensures count { result.count ≡ count }
     {
         Report {
             mark: self.observer.mark(),
-            count: self.count,
+            count,
         }
     }
 }
@@ -58,8 +56,7 @@ where
             return Err(Refusal::RunsSpent);
         }
         self.opened += 1;
-        self.running = true;
-        self.count = 0;
+        self.count = Some(0);
         self.observer.restart();
         Ok(Slip {
             bench: self.number,
@@ -68,30 +65,29 @@ where
     }
 
     fn take(&mut self, e: O::Event) -> Result<(), Refusal> {
-        if !self.running {
-            return Err(Refusal::NoRunOpen);
-        }
-        if self.count >= MOST_EVENTS {
+        let count = self.count.ok_or(Refusal::NoRunOpen)?;
+        if count >= MOST_EVENTS {
             return Err(Refusal::RunFull);
         }
-        self.count += 1;
+        self.count = Some(count + 1);
         self.observer.take(e);
         Ok(())
     }
 
     fn ask(&self) -> Result<Report, Refusal> {
-        if !self.running {
-            return Err(Refusal::NoRunOpen);
-        }
-        Ok(self.report())
+        let count = self.count.ok_or(Refusal::NoRunOpen)?;
+        Ok(self.report(count))
     }
 
     fn close(&mut self, slip: Slip) -> Result<Report, (Slip, Refusal)> {
-        if self.running && slip.bench == self.number && slip.run == self.opened {
-            self.running = false;
-            write_off(slip);
-            return Ok(self.report());
+        // The two numbers are compared as they are: a struct of both would be made anew here only to be compared.
+        match self.count {
+            Some(count) if slip.bench == self.number && slip.run == self.opened => {
+                self.count = None;
+                write_off(slip);
+                Ok(self.report(count))
+            }
+            _ => Err((slip, Refusal::SlipNotOfRun)),
         }
-        Err((slip, Refusal::SlipNotOfRun))
     }
 }

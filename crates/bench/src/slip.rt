@@ -24,3 +24,11 @@ impl Slip {
 pub fn write_off(slip: Slip) {
     let Slip { bench: _, run: _ } = slip;
 }
+
+// Ends a list of slips at no bench.
+pub fn write_off_all(mut held: Vec<Slip>) {
+    while let Some(slip) = held.pop() {
+        write_off(slip);
+    }
+    held.destroy_empty();
+}

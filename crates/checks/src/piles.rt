@@ -1,7 +1,8 @@
-use bench::{Bench, Calls, LookBench, Refusal, Report, Sight, write_off};
+use bench::{Bench, Calls, LookBench, Refusal, Report, Sight, Slip, write_off};
 use events::{Cell, MachineEvent, SheetEvent};
-use observers::{Both, Complement, Observer};
-use sheets::{FlowPort, HammerPort, Ruler, flow_port, hammer_port};
+use numbered::Numbered;
+use observers::{Both, Complement, Port};
+use sheets::{Flow, Hammer, Ruler};
 use std::test::Fail;
 
 // Runs as text: a letter for each event, `e` a line end, `p` a sheet end, anything else a cell.
@@ -30,114 +31,95 @@ fn event(letter: u8) -> SheetEvent {
     }
 }
 
-fn ruler(width: u32) -> Result<Ruler, Fail> {
-    match Ruler::new(width) {
-        Ok(ruler) => Ok(ruler),
-        Err(_) => Err(Fail::new("no ruler of this width")),
-    }
-}
-
-// The most cells that stand in a row, counted anew from each place of the run.
-fn longest(run: &[u8]) -> u32 {
-    let mut most = 0u32;
-    for start in 0..run.len() {
-        let mut row = 0u32;
-        for letter in &run[start..] {
-            if *letter == b'e' || *letter == b'p' {
-                break;
-            }
-            row = row.saturating_add(1);
-        }
-        most = most.max(row);
-    }
-    most
+// The most cells that stand in a row.
+fn longest(run: &[u8]) -> usize {
+    run.split(|letter| matches!(letter, b'e' | b'p'))
+        .map(|row| row.len())
+        .max()
+        .unwrap_or(0)
 }
 
 // How many cells the flow of a run has: every letter but a sheet end.
-fn flow_cells(run: &[u8]) -> u32 {
-    let mut cells = 0u32;
+fn flow_cells(run: &[u8]) -> usize {
+    run.iter().filter(|letter| **letter != b'p').count()
+}
+
+fn take_run<B: Calls<Event = SheetEvent>>(bench: &mut B, run: &[u8]) -> Result<(), Refusal> {
     for letter in run {
-        if *letter != b'p' {
-            cells = cells.saturating_add(1);
-        }
+        bench.take(event(*letter))?;
     }
-    cells
+    Ok(())
 }
 
-// What a bench of any observer tells of a run, by ask and by close.
-fn told<B: Calls<Event = SheetEvent>>(bench: &mut B, run: &[u8]) -> Result<Report, Refusal> {
-    match bench.open() {
-        Err(refusal) => Err(refusal),
-        Ok(slip) => {
-            for letter in run {
-                let _ = bench.take(event(*letter));
-            }
-            match bench.close(slip) {
-                Ok(report) => Ok(report),
-                Err((slip, refusal)) => {
-                    write_off(slip);
-                    Err(refusal)
-                }
-            }
-        }
-    }
-}
-
-fn report(mark: bool, run: &[u8]) -> Result<Report, Refusal> {
-    Ok(Report {
-        mark,
-        count: u32::try_from(run.len()).unwrap_or(0),
+fn close<B: Calls>(bench: &mut B, slip: Slip) -> Result<Report, Refusal> {
+    bench.close(slip).map_err(|(slip, refusal)| {
+        write_off(slip);
+        refusal
     })
+}
+
+// What a bench of any observer tells of a run, by close.
+fn told<B: Calls<Event = SheetEvent>>(bench: &mut B, run: &[u8]) -> Result<Report, Refusal> {
+    let slip = bench.open()?;
+    take_run(bench, run).and(close(bench, slip))
 }
 
 #[test]
 fn a_pile_of_three_layers_over_two_rulers(rt: HostRuntime) -> Result<(), Fail> {
-    let below: FlowPort<Both<Ruler, Ruler>> = flow_port(Both::new(ruler(4)?, ruler(3)?));
+    let below = Port::new(Flow, Both::new(Ruler::new(4)?, Ruler::new(3)?));
     let mut bench = Bench::new(7, Complement::new(below));
     for run in RUNS {
-        assert_eq!(rt; told(&mut bench, run), report(flow_cells(run) > 3, run));
+        let mark = flow_cells(run) > 3;
+        let count = u32::try_from(run.len())?;
+        assert_eq!(rt; told(&mut bench, run), Ok(Report { mark, count }));
     }
     Ok(())
 }
 
 #[test]
 fn the_ruler_and_its_complement_with_look(rt: HostRuntime) -> Result<(), Fail> {
-    let mut bench = LookBench::new(1, ruler(3)?);
-    let mut other = LookBench::new(2, Complement::new(ruler(3)?));
+    let mut bench = LookBench::new(1, Ruler::new(3)?);
+    let mut other = LookBench::new(2, Complement::new(Ruler::new(3)?));
     for run in RUNS {
-        assert_eq!(rt; told(&mut bench, run), report(longest(run) <= 3, run));
-        assert_eq!(rt; told(&mut other, run), report(longest(run) > 3, run));
+        let mark = longest(run) <= 3;
+        let count = u32::try_from(run.len())?;
+        assert_eq!(rt; told(&mut bench, run), Ok(Report { mark, count }));
+        assert_eq!(rt; told(&mut other, run), Ok(Report { mark: !mark, count }));
     }
     Ok(())
 }
 
-// The shortest beginning of the run that has a row over the width.
-fn lost_at(run: &[u8], width: u32) -> Sight {
-    for end in 0..run.len() {
-        if longest(&run[0..end + 1]) > width {
-            return Sight::Lost(u32::try_from(end).unwrap_or(0).saturating_add(1));
-        }
-    }
-    Sight::Open
+// The length of the shortest beginning of the run that has a row over the width.
+fn lost_at(run: &[u8], width: usize) -> Option<usize> {
+    (1..=run.len()).find(|end| longest(&run[..*end]) > width)
 }
 
 #[test]
 fn looks_tell_the_first_count(rt: HostRuntime) -> Result<(), Fail> {
-    let mut bench = LookBench::new(1, ruler(3)?);
+    let mut bench = LookBench::new(1, Ruler::new(3)?);
     for run in RUNS {
+        let expected = match lost_at(run, 3) {
+            Some(count) => Sight::Lost(u32::try_from(count)?),
+            None => Sight::Open,
+        };
         assert_eq!(rt; bench.look(), Err(Refusal::NoRunOpen));
-        match bench.open() {
-            Err(_) => return Err(Fail::new("open refused")),
-            Ok(slip) => {
-                for letter in run {
-                    let _ = bench.take(event(*letter));
-                }
-                let sight = bench.look();
-                if let Err((slip, _)) = bench.close(slip) {
-                    write_off(slip);
-                }
-                assert_eq!(rt; sight, Ok(lost_at(run, 3)));
-            }
+        let slip = bench.open()?;
+        let took = take_run(&mut bench, run);
+        assert_eq!(rt; bench.look(), Ok(expected));
+        took.and(close(&mut bench, slip))?;
+    }
+    Ok(())
+}
+
+// Takes each word's event; the mark after each must be the one beside it.
+fn take_words<B: Calls<Event = MachineEvent>>(
+    bench: &mut B,
+    words: &[(u32, bool)],
+) -> Result<(), Fail> {
+    for (word, mark) in words {
+        bench.take(MachineEvent::new(*word)?)?;
+        if bench.ask()?.mark != *mark {
+            return Err(Fail::new("another mark was told"));
         }
     }
     Ok(())
@@ -146,7 +128,7 @@ fn looks_tell_the_first_count(rt: HostRuntime) -> Result<(), Fail> {
 // Strikes, feeds and others, as words, and whether two cells in a row fit.
 #[test]
 fn a_hammer_port_over_a_ruler(rt: HostRuntime) -> Result<(), Fail> {
-    let words: [(u32, bool); 7] = [
+    let words: [(u32, bool); 8] = [
         (0x0000_0001, true),
         (0x4000_0005, true),
         (0x0000_0003, true),
@@ -154,79 +136,49 @@ fn a_hammer_port_over_a_ruler(rt: HostRuntime) -> Result<(), Fail> {
         (0x0000_003f, true),
         (0x8000_0000, true),
         (0x0000_0000, true),
+        (0x0000_0002, false),
     ];
-    let below: HammerPort<Ruler> = hammer_port(ruler(2)?);
-    let mut bench = Bench::new(65_535, below);
+    let mut bench = Bench::new(65_535, Port::new(Hammer, Ruler::new(2)?));
     assert_eq!(rt; bench.ask(), Err(Refusal::NoRunOpen));
-    match bench.open() {
-        Err(_) => Err(Fail::new("open refused")),
-        Ok(slip) => {
-            let mut right = true;
-            for (word, mark) in words {
-                if let Ok(e) = MachineEvent::new(word) {
-                    let _ = bench.take(e);
-                }
-                if let Ok(report) = bench.ask() {
-                    right = right && report.mark == mark;
-                }
-            }
-            if let Ok(e) = MachineEvent::new(2) {
-                let _ = bench.take(e);
-            }
-            let last = bench.close(slip);
-            match last {
-                Ok(report) => {
-                    assert!(rt; right);
-                    assert_eq!(rt;
-                        report,
-                        Report {
-                            mark: false,
-                            count: 8,
-                        }
-                    );
-                    Ok(())
-                }
-                Err((slip, _)) => {
-                    write_off(slip);
-                    Err(Fail::new("close refused"))
-                }
-            }
-        }
-    }
+    let slip = bench.open()?;
+    let took = take_words(&mut bench, &words);
+    let closed = close(&mut bench, slip);
+    took?;
+    assert_eq!(rt;
+        closed,
+        Ok(Report {
+            mark: false,
+            count: 8,
+        })
+    );
+    Ok(())
 }
 
 #[test]
 fn a_bench_opens_65535_runs(rt: HostRuntime) -> Result<(), Fail> {
-    let mut bench = Bench::new(0, ruler(1)?);
-    let mut opened = 0u32;
-    for _ in 0..65_540u32 {
-        match bench.open() {
-            Ok(slip) => {
-                write_off(slip);
-                opened = opened.saturating_add(1);
-            }
-            Err(refusal) => assert_eq!(rt; refusal.number(), 31),
-        }
+    let mut bench = Bench::new(0, Ruler::new(1)?);
+    for _ in 0..65_535 {
+        write_off(bench.open()?);
     }
-    assert_eq!(rt; opened, 65_535);
+    for _ in 0..5 {
+        let opened = bench.open().map(write_off);
+        assert_eq!(rt; opened.map_err(|refusal| refusal.number()), Err(31));
+    }
     Ok(())
 }
 
 #[test]
 fn a_run_takes_a_million_events(rt: HostRuntime) -> Result<(), Fail> {
-    let mut bench = Bench::new(0, ruler(1)?);
+    let mut bench = Bench::new(0, Ruler::new(1)?);
     assert_eq!(rt; bench.take(SheetEvent::LineEnd), Err(Refusal::NoRunOpen));
-    if let Ok(slip) = bench.open() {
-        write_off(slip);
+    write_off(bench.open()?);
+    for _ in 0..1_000_000 {
+        bench.take(SheetEvent::LineEnd)?;
     }
-    let mut taken = 0u32;
-    for _ in 0..1_000_003u32 {
-        match bench.take(SheetEvent::LineEnd) {
-            Ok(()) => taken = taken.saturating_add(1),
-            Err(refusal) => assert_eq!(rt; refusal.number(), 33),
-        }
+    for _ in 0..3 {
+        let took = bench.take(SheetEvent::LineEnd);
+        assert_eq!(rt; took.map_err(|refusal| refusal.number()), Err(33));
     }
-    assert_eq!(rt; taken, 1_000_000);
     assert_eq!(rt;
         bench.ask(),
         Ok(Report {

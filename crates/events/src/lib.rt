@@ -2,7 +2,6 @@
 #![tactic(auto)]
 
 pub mod cell;
-pub mod dots;
 pub mod kind;
 pub mod machine;
 pub mod refusal;
@@ -10,7 +9,7 @@ pub mod sheet;
 pub mod word;
 
 pub use cell::Cell;
-pub use kind::Kind;
+pub use kind::{Kind, NoName};
 pub use machine::{Action, MachineName};
 pub use refusal::EventRefusal;
 pub use sheet::{SheetEvent, SheetName};

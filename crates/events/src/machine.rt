@@ -1,15 +1,15 @@
-ghost use Rattle.std.specs.Prelude.{◌≡◌, ◌<◌, ◌≤◌, MatchOption};
+ghost use Rattle.std.specs.Prelude.{◌≡◌, ◌<◌, ◌≤◌, MatchResult};
 ghost use Rattle.events.specs.Rooms.{room};
-ghost use Rattle.events.specs.Machines.{MachineMade, action_of, machine_name, machine_number, machine_name_at, machine_text, machine_example};
+ghost use Rattle.events.specs.Machines.{machine_name, machine_number, machine_name_at, machine_text, machine_example};
 ghost use Rattle.std.proofs.Common.{rules};
 
 use crate::cell::Cell;
-use crate::kind::Kind;
-use crate::refusal::EventRefusal;
+use crate::kind::{Kind, NoName};
 use crate::word::MachineEvent;
+use numbered::Numbered;
 
 // The names of machine events, with their numbers.
-#[derive(Clone, Copy)]
+#[derive(Clone, Copy, PartialEq, Eq, Debug)]
 pub enum MachineName {
     Strike = 0,
     Feed = 1,
@@ -19,7 +19,7 @@ pub enum MachineName {
 }
 
 // What the embosser did.
-#[derive(Clone, Copy)]
+#[derive(Clone, Copy, PartialEq, Eq, Debug)]
 pub enum Action {
     Strike(Cell),
     FeedLine,
@@ -29,92 +29,9 @@ pub enum Action {
     Cover,
 }
 
-impl MachineEvent {
-    pub fn new(word: u32) -> Result<MachineEvent, EventRefusal>
-        ensures { MachineMade word result }
-    {
-        let Some(name) = MachineName::at((word >> 29) as u8) else {
-            return Err(EventRefusal::KindUnknown);
-        };
-        if word % (1 << 29) < name.room() {
-            Ok(MachineEvent { word })
-        } else {
-            Err(EventRefusal::BitNotZero)
-        }
-    }
-
-    pub fn word(self) -> u32
-        ensures { result ≡ self.word }
-    {
-        self.word
-    }
-
-    pub fn action(self) -> Action
-        ensures { result ≡ action_of self }
-    {
-        match MachineName::of(self) {
-            MachineName::Strike => Action::Strike(Cell::low(self.word)),
-            MachineName::Feed => {
-                if self.word % 2 == 0 {
-                    Action::FeedLine
-                } else {
-                    Action::FeedSheet
-                }
-            }
-            MachineName::Park => Action::Park,
-            MachineName::Jam => Action::Jam,
-            MachineName::Cover => Action::Cover,
-        }
-    }
-}
-
 impl MachineName {
-    fn of(event: MachineEvent) -> MachineName
-        ensures { result ≡ machine_name event }
-    {
-        match event.word >> 29 {
-            0 => MachineName::Strike,
-            1 => MachineName::Feed,
-            2 => MachineName::Park,
-            3 => MachineName::Jam,
-            _ => MachineName::Cover,
-        }
-    }
-
-    // The name with a number, `None` exactly from 5 on.
-    fn at(n: u8) -> Option<MachineName>
-        ensures { MatchOption result (5 ≤ n) (λ s. (n < 5) × (s ≡ machine_name_at n)) }
-    {
-        match n {
-            0 => Some(MachineName::Strike),
-            1 => Some(MachineName::Feed),
-            2 => Some(MachineName::Park),
-            3 => Some(MachineName::Jam),
-            4 => Some(MachineName::Cover),
-            _ => None,
-        }
-    }
-
-    fn number(self) -> u8
-        ensures { result ≡ machine_number self }
-    {
-        self as u8
-    }
-
-    fn text<'a>(self) -> &'a str
-        ensures { result.now ≡ machine_text self }
-    {
-        match self {
-            MachineName::Strike => "strike",
-            MachineName::Feed => "feed",
-            MachineName::Park => "park",
-            MachineName::Jam => "jam",
-            MachineName::Cover => "cover",
-        }
-    }
-
     // How many values the bits 28 to 0 of an event of this name can have.
-    fn room(self) -> u32
+    pub(crate) fn room(self) -> u32
         ensures { result ≡ room (machine_number self) }
     {
         match self {
@@ -123,21 +40,49 @@ impl MachineName {
             MachineName::Park | MachineName::Jam | MachineName::Cover => 1 << 29,
         }
     }
+}
 
-    // The event of this name with no other bit set.
-    fn example(self) -> MachineEvent
-        ensures { result ≡ machine_example self }
-    {
-        MachineEvent {
-            word: u32::from(self.number()) << 29,
+impl From<MachineEvent> for MachineName {
+    ghost from_gives = { λ e s. s ≡ machine_name e };
+
+    fn from(value: MachineEvent) -> MachineName {
+        MachineName::try_from((value.word >> 29) as u8).unwrap()
+    }
+}
+
+impl TryFrom<u8> for MachineName {
+    type Error = NoName;
+
+    ghost try_from_gives = { λ n r. MatchResult r (λ s. (n < 5) × (s ≡ machine_name_at n)) (λ _. 5 ≤ n) };
+
+    fn try_from(value: u8) -> Result<MachineName, NoName> {
+        match value {
+            0 => Ok(MachineName::Strike),
+            1 => Ok(MachineName::Feed),
+            2 => Ok(MachineName::Park),
+            3 => Ok(MachineName::Jam),
+            4 => Ok(MachineName::Cover),
+            _ => Err(NoName),
         }
     }
 }
 
+impl Numbered for MachineName {
+    ghost number = { machine_number };
+
+    ghost apart = { Prim.search rules };
+
+    fn number(self) -> u8 {
+        self as u8
+    }
+}
+
 impl Kind for MachineEvent {
+    type Name = MachineName;
+
     const NAMES: u8 = 5;
 
-    ghost count = { 5 };
+    ghost NAMES = { 5 };
 
     ghost number = { λ e. machine_number (machine_name e) };
 
@@ -157,25 +102,27 @@ impl Kind for MachineEvent {
 
     ghost samples = { Prim.search rules };
 
-    fn total() -> u8 {
-        Self::NAMES
-    }
+    ghost known = { Prim.search rules };
 
-    fn name(&self) -> u8 {
-        MachineName::of(*self).number()
-    }
+    ghost named = { Prim.search rules };
 
-    fn label<'a>(n: u8) -> Option<&'a str> {
-        match MachineName::at(n) {
-            Some(name) => Some(name.text()),
-            None => None,
+    ghost names = { Prim.search rules };
+
+    fn text<'a>(name: MachineName) -> &'a str {
+        match name {
+            MachineName::Strike => "strike",
+            MachineName::Feed => "feed",
+            MachineName::Park => "park",
+            MachineName::Jam => "jam",
+            MachineName::Cover => "cover",
         }
     }
 
-    fn sample(n: u8) -> Option<MachineEvent> {
-        match MachineName::at(n) {
-            Some(name) => Some(name.example()),
-            None => None,
+    // The event of this name with no other bit set.
+    #[tactic(auto, using(crate::proofs::Same::same_event))]
+    fn example(name: MachineName) -> MachineEvent {
+        MachineEvent {
+            word: u32::from(name.number()) << 29,
         }
     }
 }

@@ -1,5 +1,7 @@
-ghost use Rattle.std.specs.Prelude.{◌≡◌};
 ghost use Rattle.events.specs.Refusals.{refusal_number};
+ghost use Rattle.std.proofs.Common.{rules};
+
+use numbered::Numbered;
 
 // Why no event is made.
 #[derive(Clone, Copy, PartialEq, Eq, Debug)]
@@ -9,10 +11,12 @@ pub enum EventRefusal {
     BitNotZero = 23,
 }
 
-impl EventRefusal {
-    pub fn number(self) -> u8
-        ensures { result ≡ refusal_number self }
-    {
+impl Numbered for EventRefusal {
+    ghost number = { refusal_number };
+
+    ghost apart = { Prim.search rules };
+
+    fn number(self) -> u8 {
         self as u8
     }
 }

@@ -1,11 +1,12 @@
-ghost use Rattle.std.specs.Prelude.{◌≡◌, ◌<◌, ◌≤◌, MatchOption};
+ghost use Rattle.std.specs.Prelude.{◌≡◌, ◌<◌, ◌≤◌, MatchResult};
 ghost use Rattle.events.specs.Sheets.{cell_name, sheet_name, sheet_number, sheet_name_at, sheet_text, sheet_example};
 ghost use Rattle.std.proofs.Common.{rules};
 
 use crate::cell::Cell;
-use crate::kind::Kind;
+use crate::kind::{Kind, NoName};
+use numbered::Numbered;
 
-#[derive(Clone, Copy)]
+#[derive(Clone, Copy, PartialEq, Eq, Debug)]
 pub enum SheetEvent {
     Struck(Cell),
     LineEnd,
@@ -13,7 +14,7 @@ pub enum SheetEvent {
 }
 
 // The names of sheet events, with their numbers.
-#[derive(Clone, Copy)]
+#[derive(Clone, Copy, PartialEq, Eq, Debug)]
 pub enum SheetName {
     Cap = 0,
     Num = 1,
@@ -24,21 +25,11 @@ pub enum SheetName {
     Eop = 6,
 }
 
-impl SheetName {
-    fn of(event: SheetEvent) -> SheetName
-        ensures { result ≡ sheet_name event }
-    {
-        match event {
-            SheetEvent::Struck(cell) => SheetName::of_cell(cell),
-            SheetEvent::LineEnd => SheetName::Eol,
-            SheetEvent::SheetEnd => SheetName::Eop,
-        }
-    }
+impl From<Cell> for SheetName {
+    ghost from_gives = { λ c s. s ≡ cell_name c.dots };
 
-    fn of_cell(cell: Cell) -> SheetName
-        ensures { result ≡ cell_name cell.dots }
-    {
-        match cell.dots() {
+    fn from(value: Cell) -> SheetName {
+        match value.dots() {
             32 => SheetName::Cap,
             60 => SheetName::Num,
             1 | 3 | 9 | 25 | 17 | 11 | 27 | 19 | 10 | 26 => SheetName::Dig,
@@ -46,62 +37,55 @@ impl SheetName {
             _ => SheetName::Oth,
         }
     }
+}
 
-    // The name with a number, `None` exactly from 7 on.
-    fn at(n: u8) -> Option<SheetName>
-        ensures { MatchOption result (7 ≤ n) (λ s. (n < 7) × (s ≡ sheet_name_at n)) }
-    {
-        match n {
-            0 => Some(SheetName::Cap),
-            1 => Some(SheetName::Num),
-            2 => Some(SheetName::Dig),
-            3 => Some(SheetName::Sp),
-            4 => Some(SheetName::Oth),
-            5 => Some(SheetName::Eol),
-            6 => Some(SheetName::Eop),
-            _ => None,
-        }
-    }
+impl From<SheetEvent> for SheetName {
+    ghost from_gives = { λ e s. s ≡ sheet_name e };
 
-    fn number(self) -> u8
-        ensures { result ≡ sheet_number self }
-    {
-        self as u8
-    }
-
-    fn text<'a>(self) -> &'a str
-        ensures { result.now ≡ sheet_text self }
-    {
-        match self {
-            SheetName::Cap => "cap",
-            SheetName::Num => "num",
-            SheetName::Dig => "dig",
-            SheetName::Sp => "sp",
-            SheetName::Oth => "oth",
-            SheetName::Eol => "eol",
-            SheetName::Eop => "eop",
-        }
-    }
-
-    fn example(self) -> SheetEvent
-        ensures { result ≡ sheet_example self }
-    {
-        match self {
-            SheetName::Cap => SheetEvent::Struck(Cell::low(32)),
-            SheetName::Num => SheetEvent::Struck(Cell::low(60)),
-            SheetName::Dig => SheetEvent::Struck(Cell::low(1)),
-            SheetName::Sp => SheetEvent::Struck(Cell::low(0)),
-            SheetName::Oth => SheetEvent::Struck(Cell::low(2)),
-            SheetName::Eol => SheetEvent::LineEnd,
-            SheetName::Eop => SheetEvent::SheetEnd,
+    fn from(value: SheetEvent) -> SheetName {
+        match value {
+            SheetEvent::Struck(cell) => SheetName::from(cell),
+            SheetEvent::LineEnd => SheetName::Eol,
+            SheetEvent::SheetEnd => SheetName::Eop,
         }
     }
 }
 
+impl TryFrom<u8> for SheetName {
+    type Error = NoName;
+
+    ghost try_from_gives = { λ n r. MatchResult r (λ s. (n < 7) × (s ≡ sheet_name_at n)) (λ _. 7 ≤ n) };
+
+    fn try_from(value: u8) -> Result<SheetName, NoName> {
+        match value {
+            0 => Ok(SheetName::Cap),
+            1 => Ok(SheetName::Num),
+            2 => Ok(SheetName::Dig),
+            3 => Ok(SheetName::Sp),
+            4 => Ok(SheetName::Oth),
+            5 => Ok(SheetName::Eol),
+            6 => Ok(SheetName::Eop),
+            _ => Err(NoName),
+        }
+    }
+}
+
+impl Numbered for SheetName {
+    ghost number = { sheet_number };
+
+    ghost apart = { Prim.search rules };
+
+    fn number(self) -> u8 {
+        self as u8
+    }
+}
+
 impl Kind for SheetEvent {
+    type Name = SheetName;
+
     const NAMES: u8 = 7;
 
-    ghost count = { 7 };
+    ghost NAMES = { 7 };
 
     ghost number = { λ e. sheet_number (sheet_name e) };
 
@@ -121,25 +105,33 @@ impl Kind for SheetEvent {
 
     ghost samples = { Prim.search rules };
 
-    fn total() -> u8 {
-        Self::NAMES
-    }
+    ghost known = { Prim.search rules };
 
-    fn name(&self) -> u8 {
-        SheetName::of(*self).number()
-    }
+    ghost named = { Prim.search rules };
 
-    fn label<'a>(n: u8) -> Option<&'a str> {
-        match SheetName::at(n) {
-            Some(name) => Some(name.text()),
-            None => None,
+    ghost names = { Prim.search rules };
+
+    fn text<'a>(name: SheetName) -> &'a str {
+        match name {
+            SheetName::Cap => "cap",
+            SheetName::Num => "num",
+            SheetName::Dig => "dig",
+            SheetName::Sp => "sp",
+            SheetName::Oth => "oth",
+            SheetName::Eol => "eol",
+            SheetName::Eop => "eop",
         }
     }
 
-    fn sample(n: u8) -> Option<SheetEvent> {
-        match SheetName::at(n) {
-            Some(name) => Some(name.example()),
-            None => None,
+    fn example(name: SheetName) -> SheetEvent {
+        match name {
+            SheetName::Cap => SheetEvent::Struck(Cell::low(32)),
+            SheetName::Num => SheetEvent::Struck(Cell::low(60)),
+            SheetName::Dig => SheetEvent::Struck(Cell::low(1)),
+            SheetName::Sp => SheetEvent::Struck(Cell::low(0)),
+            SheetName::Oth => SheetEvent::Struck(Cell::low(2)),
+            SheetName::Eol => SheetEvent::LineEnd,
+            SheetName::Eop => SheetEvent::SheetEnd,
         }
     }
 }

@@ -1,5 +1,5 @@
 -- Roots stay where nodes are added, and each has one formula.
-use Rattle.std.proofs.Common.{◌≡◌, ℕ, suc, ◌+◌, ◌<◌, Bool, List, [], ◌∷◌, ◌++◌, length, get_or, take, drop, sym, refl, ap, ◌∙◌, subst, add-zero, arith, length-append, take-append-drop, length-take-le, drop-cons}
+use Rattle.std.proofs.Common.{◌≡◌, ℕ, suc, ◌+◌, ◌<◌, Bool, List, [], ◌∷◌, ◌++◌, length, get_or, take, drop, sym, refl, ap, ◌∙◌, subst, ap₂, add-zero, arith, length-append, take-append-drop, length-take-le, drop-cons}
 use mathlib.Core.Logic.{∥∥₁_elim, ∥∥₁_map}
 use native.Mathlib.Bridge.{le_prop}
 use lib.Seq.{get_or-append_seam}
@@ -62,18 +62,12 @@ module _ (ns : List Node) (i : ℕ) (x : Node) (h : At ns i x) where
       ∙ sym (kept (drop (suc i) ns) (front ++ made x front ∷ []) j (simp length-append (omega (arith, front_long))))
       ∙ sym (ap (λ l. get_or l j (name 0)) all)
 
-both : (o : Binary) (f f' g g' : Formula) → f ≡ f' → g ≡ g' → binary o f g ≡ binary o f' g'
-both o f f' g g' p q = cc
-
 pub formula_is : {ns : List Node} {i b : ℕ} {f : Formula} → Rooted ns i b f → formula_at ns i ≡ f
 formula_is (a_name h) = here _ _ _ h
 formula_is (a_constant h) = here _ _ _ h
 formula_is (a_prefix {o = o} h lt r) = here _ _ _ h ∙ ap (unary o) (below _ _ _ h _ lt ∙ formula_is r)
 formula_is (an_infix {o = o} h lt lt' r s) =
-    here _ _ _ h ∙ both o _ _ _ _ (below _ _ _ h _ lt ∙ formula_is r) (below _ _ _ h _ lt' ∙ formula_is s)
-
-clash : {X : Type 0} → ◌≡◌ {A = ℕ} 0 1 → X
-clash z = absurd (omega arith)
+    here _ _ _ h ∙ ap₂ (binary o) (below _ _ _ h _ lt ∙ formula_is r) (below _ _ _ h _ lt' ∙ formula_is s)
 
 abbrev SomeRoot : List Node → ℕ → Type 0
 SomeRoot ns i = (b : ℕ) × (f : Formula) × Rooted ns i b f
@@ -98,19 +92,19 @@ module _ (ns : List Node) (i : ℕ) where
   prefix_formula o b j h lt = here _ _ _ h ∙ ap (unary o) (below _ _ _ h _ lt)
 
   pub infix_formula : (o : Binary) (b j k : ℕ) → At ns i (node.Infix o b j k) → j < i → k < i → formula_at ns i ≡ binary o (formula_at ns j) (formula_at ns k)
-  infix_formula o b j k h lt lt' = here _ _ _ h ∙ both o _ _ _ _ (below _ _ _ h _ lt) (below _ _ _ h _ lt')
+  infix_formula o b j k h lt lt' = here _ _ _ h ∙ ap₂ (binary o) (below _ _ _ h _ lt) (below _ _ _ h _ lt')
 
   -- The operands of a node that stands, stand before it.
   prefix_root : (o : Unary) (b j c : ℕ) (f : Formula) → At ns i (node.Prefix o b j) → Rooted ns i c f → (j < i) × SomeRoot ns j
-  prefix_root o b j c f h (a_name k) = let e = same_node _ _ h k in clash (cc)
-  prefix_root o b j c f h (a_constant k) = let e = same_node _ _ h k in clash (cc)
+  prefix_root o b j c f h (a_name k) = let e = same_node _ _ h k in absurd (cc)
+  prefix_root o b j c f h (a_constant k) = let e = same_node _ _ h k in absurd (cc)
   prefix_root o b j c f h (a_prefix {j = j'} k lt r) = let e = same_node _ _ k h in let q : j' ≡ j = cc in subst (λ m. (m < i) × SomeRoot ns m) q (lt, (_, _, r))
-  prefix_root o b j c f h (an_infix k lt lt' r s) = let e = same_node _ _ h k in clash (cc)
+  prefix_root o b j c f h (an_infix k lt lt' r s) = let e = same_node _ _ h k in absurd (cc)
 
   infix_root : (o : Binary) (b j k c : ℕ) (f : Formula) → At ns i (node.Infix o b j k) → Rooted ns i c f → ((j < i) × SomeRoot ns j) × ((k < i) × SomeRoot ns k)
-  infix_root o b j k c f h (a_name m) = let e = same_node _ _ h m in clash (cc)
-  infix_root o b j k c f h (a_constant m) = let e = same_node _ _ h m in clash (cc)
-  infix_root o b j k c f h (a_prefix m lt r) = let e = same_node _ _ h m in clash (cc)
+  infix_root o b j k c f h (a_name m) = let e = same_node _ _ h m in absurd (cc)
+  infix_root o b j k c f h (a_constant m) = let e = same_node _ _ h m in absurd (cc)
+  infix_root o b j k c f h (a_prefix m lt r) = let e = same_node _ _ h m in absurd (cc)
   infix_root o b j k c f h (an_infix {j = j'} {k = k'} m lt lt' r s) =
       let e = same_node _ _ m h in
       let p : j' ≡ j = cc in

@@ -1,8 +1,10 @@
-ghost use Rattle.std.specs.Prelude.{◌≡◌};
 ghost use Rattle.formulas.specs.Signs.{binary_sign};
+ghost use Rattle.std.proofs.Common.{rules};
+
+use crate::operator::Operator;
 
 // The operators that stand between their operands, with their signs.
-#[derive(Clone, Copy, PartialEq)]
+#[derive(Clone, Copy, PartialEq, Eq)]
 pub enum Binary {
     And = '&' as isize,
     Or = '|' as isize,
@@ -11,10 +13,12 @@ pub enum Binary {
     Until = 'U' as isize,
 }
 
-impl Binary {
-    pub fn sign(self) -> u8
-        ensures { result ≡ binary_sign self }
-    {
+impl Operator for Binary {
+    ghost sign = { binary_sign };
+
+    ghost apart = { Prim.search rules };
+
+    fn sign(self) -> u8 {
         self as u8
     }
 }

@@ -3,10 +3,12 @@
 
 pub mod binary;
 pub mod node;
+pub mod operator;
 pub mod unary;
 pub mod word;
 
 pub use binary::Binary;
 pub use node::Node;
+pub use operator::Operator;
 pub use unary::Unary;
 pub use word::Word;

@@ -1,8 +1,10 @@
-ghost use Rattle.std.specs.Prelude.{◌≡◌};
 ghost use Rattle.formulas.specs.Signs.{unary_sign};
+ghost use Rattle.std.proofs.Common.{rules};
+
+use crate::operator::Operator;
 
 // The operators that stand before their operand, with their signs.
-#[derive(Clone, Copy)]
+#[derive(Clone, Copy, PartialEq, Eq)]
 pub enum Unary {
     Not = '!' as isize,
     Next = 'X' as isize,
@@ -11,10 +13,12 @@ pub enum Unary {
     Globally = 'G' as isize,
 }
 
-impl Unary {
-    pub fn sign(self) -> u8
-        ensures { result ≡ unary_sign self }
-    {
+impl Operator for Unary {
+    ghost sign = { unary_sign };
+
+    ghost apart = { Prim.search rules };
+
+    fn sign(self) -> u8 {
         self as u8
     }
 }

@@ -4,11 +4,12 @@ ghost use Rattle.formulas.specs.Formulas.{node, temporal};
 use crate::binary::Binary;
 use crate::unary::Unary;
 
-// A word of a rule; a name is its number in the kind of events.
-#[derive(Clone, Copy)]
+// A word of a rule; a name is its number in the kind of events. The default stands where a row of fixed length has no word.
+#[derive(Clone, Copy, PartialEq, Eq, Default)]
 pub enum Word {
     Name(u8),
     Constant(bool),
+    #[default]
     Open,
     Close,
     Prefix(Unary),
@@ -20,10 +21,7 @@ impl Word {
     pub fn is_node(self) -> bool
         ensures { result ≡ node self }
     {
-        match self {
-            Word::Open | Word::Close => false,
-            _ => true,
-        }
+        !matches!(self, Word::Open | Word::Close)
     }
 
     // X, N, F, G and U are the temporal operators.
@@ -31,14 +29,8 @@ impl Word {
         ensures { result ≡ temporal self }
     {
         match self {
-            Word::Prefix(op) => match op {
-                Unary::Not => false,
-                _ => true,
-            },
-            Word::Infix(op) => match op {
-                Binary::Until => true,
-                _ => false,
-            },
+            Word::Prefix(op) => op != Unary::Not,
+            Word::Infix(op) => op == Binary::Until,
             _ => false,
         }
     }

@@ -1,111 +1,35 @@
 -- The machine follows every derivation.
-use Rattle.std.proofs.Common.{◌≡◌, ◌≤◌, Bool, true, false, List, [], ◌∷◌, refl, ◌∙◌, arith, lit≤}
+use Rattle.std.proofs.Common.{◌≡◌, ◌≤◌, Bool, true, false, List, ◌∷◌, refl, ◌∙◌, arith, lit≤}
 use Rattle.formulas.specs.declared.binary.Binary.TheVariants.{And, Or, Implies, Iff, Until}
 use Rattle.formulas.specs.declared.word.Word.{Word}
-use Rattle.formulas.specs.declared.word.Word.TheVariants.{Name, Constant, Open, Close, Prefix, Infix}
+use Rattle.formulas.specs.declared.word.Word.TheVariants.{Infix}
 use Rattle.formulas.specs.Formulas.{Formula, unary, binary}
 use Rattle.grammar.specs.Grammar.{Level, rule, implication, Derives, a_name, a_constant, a_prefix, a_bracket, an_operand, an_until, a_part, an_and, a_conjunction, an_or, an_alternative, an_implies, an_implication, an_iff}
-use Rattle.grammar.specs.Machine.{Slot, idle, Stack, base, over, has, outcome, weak, past, Goes}
+use Rattle.grammar.specs.Machine.{Slot, idle, Stack, over, has, outcome, weak, past, Goes}
 
 -- a pending `U` is done where no `U` follows
 pub join_until : (ws : List Word) → 2 ≤ weak ws → (f g : Formula) (e : Bool) (s t o a n : Slot) (k : Stack) → outcome ws (has g e s t o a (λ x. n (binary Until f x)) k) ≡ outcome ws (has (binary Until f g) e s t o a n k)
-join_until [] h f g e s t o a n base = refl
-join_until [] h f g e s t o a n (over e' s' t' o' a' n' p' k) = refl
-join_until (Name m ∷ ws) h f g e s t o a n k = refl
-join_until (Constant b ∷ ws) h f g e s t o a n k = refl
-join_until (Prefix q ∷ ws) h f g e s t o a n k = refl
-join_until (Open ∷ ws) h f g e s t o a n k = refl
-join_until (Close ∷ ws) h f g e s t o a n base = refl
-join_until (Close ∷ ws) h f g e s t o a n (over e' s' t' o' a' n' p' k) = refl
-join_until (Infix Until ∷ ws) h f g e s t o a n k = absurd (omega arith)
-join_until (Infix And ∷ ws) h f g e s t o a n k = refl
-join_until (Infix Or ∷ ws) h f g e s t o a n k = refl
-join_until (Infix Implies ∷ ws) h f g e s t o a n k = refl
-join_until (Infix Iff ∷ ws) h f g true s t o a n k = refl
-join_until (Infix Iff ∷ ws) h f g false s t o a n k = refl
+join_until ws h f g e s t o a n k = grind arith
 
 -- a pending `&`
 pub join_and : (ws : List Word) → 2 ≤ weak ws → (f g : Formula) (e : Bool) (s t o : Slot) (k : Stack) → outcome ws (has g e s t o (λ x. binary And f x) idle k) ≡ outcome ws (has (binary And f g) e s t o idle idle k)
-join_and [] h f g e s t o base = refl
-join_and [] h f g e s t o (over e' s' t' o' a' n' p' k) = refl
-join_and (Name m ∷ ws) h f g e s t o k = refl
-join_and (Constant b ∷ ws) h f g e s t o k = refl
-join_and (Prefix q ∷ ws) h f g e s t o k = refl
-join_and (Open ∷ ws) h f g e s t o k = refl
-join_and (Close ∷ ws) h f g e s t o base = refl
-join_and (Close ∷ ws) h f g e s t o (over e' s' t' o' a' n' p' k) = refl
-join_and (Infix Until ∷ ws) h f g e s t o k = absurd (omega arith)
-join_and (Infix And ∷ ws) h f g e s t o k = refl
-join_and (Infix Or ∷ ws) h f g e s t o k = refl
-join_and (Infix Implies ∷ ws) h f g e s t o k = refl
-join_and (Infix Iff ∷ ws) h f g true s t o k = refl
-join_and (Infix Iff ∷ ws) h f g false s t o k = refl
+join_and ws h f g e s t o k = grind arith
 
 -- a pending `|`
 pub join_or : (ws : List Word) → 3 ≤ weak ws → (f g : Formula) (e : Bool) (s t : Slot) (k : Stack) → outcome ws (has g e s t (λ x. binary Or f x) idle idle k) ≡ outcome ws (has (binary Or f g) e s t idle idle idle k)
-join_or [] h f g e s t base = refl
-join_or [] h f g e s t (over e' s' t' o' a' n' p' k) = refl
-join_or (Name m ∷ ws) h f g e s t k = refl
-join_or (Constant b ∷ ws) h f g e s t k = refl
-join_or (Prefix q ∷ ws) h f g e s t k = refl
-join_or (Open ∷ ws) h f g e s t k = refl
-join_or (Close ∷ ws) h f g e s t base = refl
-join_or (Close ∷ ws) h f g e s t (over e' s' t' o' a' n' p' k) = refl
-join_or (Infix Until ∷ ws) h f g e s t k = absurd (omega arith)
-join_or (Infix And ∷ ws) h f g e s t k = absurd (omega arith)
-join_or (Infix Or ∷ ws) h f g e s t k = refl
-join_or (Infix Implies ∷ ws) h f g e s t k = refl
-join_or (Infix Iff ∷ ws) h f g true s t k = refl
-join_or (Infix Iff ∷ ws) h f g false s t k = refl
+join_or ws h f g e s t k = grind arith
 
 -- a pending `>`
 pub join_then : (ws : List Word) → 5 ≤ weak ws → (f g : Formula) (e : Bool) (s t : Slot) (k : Stack) → outcome ws (has g e s (λ x. t (binary Implies f x)) idle idle idle k) ≡ outcome ws (has (binary Implies f g) e s t idle idle idle k)
-join_then [] h f g e s t base = refl
-join_then [] h f g e s t (over e' s' t' o' a' n' p' k) = refl
-join_then (Name m ∷ ws) h f g e s t k = refl
-join_then (Constant b ∷ ws) h f g e s t k = refl
-join_then (Prefix q ∷ ws) h f g e s t k = refl
-join_then (Open ∷ ws) h f g e s t k = refl
-join_then (Close ∷ ws) h f g e s t base = refl
-join_then (Close ∷ ws) h f g e s t (over e' s' t' o' a' n' p' k) = refl
-join_then (Infix Until ∷ ws) h f g e s t k = absurd (omega arith)
-join_then (Infix And ∷ ws) h f g e s t k = absurd (omega arith)
-join_then (Infix Or ∷ ws) h f g e s t k = absurd (omega arith)
-join_then (Infix Implies ∷ ws) h f g e s t k = absurd (omega arith)
-join_then (Infix Iff ∷ ws) h f g true s t k = refl
-join_then (Infix Iff ∷ ws) h f g false s t k = refl
+join_then ws h f g e s t k = grind arith
 
 -- a pending `=`
 pub join_same : (ws : List Word) → 5 ≤ weak ws → (f g : Formula) (k : Stack) → outcome ws (has g true (λ x. binary Iff f x) idle idle idle idle k) ≡ outcome ws (has (binary Iff f g) true idle idle idle idle idle k)
-join_same [] h f g base = refl
-join_same [] h f g (over e' s' t' o' a' n' p' k) = refl
-join_same (Name m ∷ ws) h f g k = refl
-join_same (Constant b ∷ ws) h f g k = refl
-join_same (Prefix q ∷ ws) h f g k = refl
-join_same (Open ∷ ws) h f g k = refl
-join_same (Close ∷ ws) h f g base = refl
-join_same (Close ∷ ws) h f g (over e' s' t' o' a' n' p' k) = refl
-join_same (Infix Until ∷ ws) h f g k = absurd (omega arith)
-join_same (Infix And ∷ ws) h f g k = absurd (omega arith)
-join_same (Infix Or ∷ ws) h f g k = absurd (omega arith)
-join_same (Infix Implies ∷ ws) h f g k = absurd (omega arith)
-join_same (Infix Iff ∷ ws) h f g k = refl
+join_same ws h f g k = grind arith
 
 -- no `=` at the level, and none follows
 pub join_none : (ws : List Word) → 6 ≤ weak ws → (f : Formula) (k : Stack) → outcome ws (has f false idle idle idle idle idle k) ≡ outcome ws (has f true idle idle idle idle idle k)
-join_none [] h f base = refl
-join_none [] h f (over e' s' t' o' a' n' p' k) = refl
-join_none (Name m ∷ ws) h f k = refl
-join_none (Constant b ∷ ws) h f k = refl
-join_none (Prefix q ∷ ws) h f k = refl
-join_none (Open ∷ ws) h f k = refl
-join_none (Close ∷ ws) h f base = refl
-join_none (Close ∷ ws) h f (over e' s' t' o' a' n' p' k) = refl
-join_none (Infix Until ∷ ws) h f k = absurd (omega arith)
-join_none (Infix And ∷ ws) h f k = absurd (omega arith)
-join_none (Infix Or ∷ ws) h f k = absurd (omega arith)
-join_none (Infix Implies ∷ ws) h f k = absurd (omega arith)
-join_none (Infix Iff ∷ ws) h f k = absurd (omega arith)
+join_none ws h f k = grind arith
 
 -- every part that the grammar has, and after which no tighter infix stands, is followed by the machine
 pub follows : {l : Level} {ws rest : List Word} {f : Formula} → Derives l ws rest f → past l ≤ weak rest → Goes l ws rest f

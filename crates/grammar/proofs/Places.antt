@@ -1,11 +1,10 @@
 -- Where the machine is stuck, the words before can still become a rule, and with the next word they cannot.
-use Rattle.std.proofs.Common.{◌≡◌, ℕ, zero, suc, ◌+◌, ◌<◌, ◌≤◌, Bool, true, List, [], ◌∷◌, ◌++◌, length, take, drop, Some, None, Option, sym, refl, ap, ◌∙◌, subst, inl, inr, append_assoc, add-one, arith, lit≤, length-drop, take-append-drop, take-take}
-use Rattle.std.proofs.lemmas.Bool.{cases_lt}
+use Rattle.std.proofs.Common.{◌≡◌, ℕ, zero, suc, ◌+◌, ◌<◌, ◌≤◌, Bool, true, List, [], ◌∷◌, ◌++◌, length, take, drop, Some, None, Option, sym, refl, ap, ◌∙◌, subst, append_assoc, add-one, arith, lit≤, length-drop, take-append-drop, take-take}
 use Rattle.formulas.specs.declared.word.Word.{Word}
 use Rattle.formulas.specs.declared.word.Word.TheVariants.{Constant, Close}
 use Rattle.formulas.specs.Formulas.{Formula, constant}
 use Rattle.grammar.specs.Grammar.{Rules, Fails}
-use Rattle.grammar.specs.Machine.{Slot, Stack, base, over, State, wants, has, Out, read, stuck, step, ends, outcome, start}
+use Rattle.grammar.specs.Machine.{Slot, Stack, base, over, State, wants, has, Out, read, stuck, step, outcome, start}
 use Rattle.grammar.proofs.Complete.{follows}
 use Rattle.grammar.proofs.Sound.{sound, unread}
 
@@ -27,21 +26,13 @@ finish (has f e s t o a n k) = let c = closes k f e s t o a n in (closing k, c.0
 abbrev onward : Option State → Word → List Word → Out
 onward m w ws = elim m [ Some next ↦ outcome ws next | None ↦ stuck (w ∷ ws) ]
 
-same_stuck : (u v : List Word) → stuck u ≡ stuck v → u ≡ v
-same_stuck u v e = cc
-
 -- what is left where the machine is stuck is no longer than what it was given
 short : (ws : List Word) (st : State) (rest : List Word) → outcome ws st ≡ stuck rest → length rest ≤ length ws
-short [] st rest e = ended st e
-  where
-    ended : (st : State) → ends st ≡ stuck rest → length rest ≤ 0
-    ended (wants e s t o a n p k) i = omega (arith, ap length (same_stuck _ _ i))
-    ended (has f e s t o a n base) i = absurd (unread rest _ (sym i))
-    ended (has f e s t o a n (over e' s' t' o' a' n' p' k)) i = omega (arith, ap length (same_stuck _ _ i))
+short [] st rest e = grind arith
 short (w ∷ ws) st rest e = go (step st w) (λ next i. short ws next rest i) e
   where
     go : (m : Option State) → ((next : State) → outcome ws next ≡ stuck rest → length rest ≤ length ws) → onward m w ws ≡ stuck rest → length rest ≤ suc (length ws)
-    go None more i = omega (arith, ap length (same_stuck _ _ i))
+    go None more i = grind arith
     go (Some next) more i = omega (arith, more next i)
 
 -- the words up to where the machine is stuck can be completed
@@ -51,7 +42,7 @@ live [] st (suc n) h e = absurd (omega arith)
 live (w ∷ ws) st (suc n) h e = go (step st w) (λ next i. live ws next n (omega arith) i) e
   where
     go : (m : Option State) → ((next : State) → outcome ws next ≡ stuck (drop n ws) → (more : List Word) × (g : Formula) × (outcome (take n ws ++ more) next ≡ read g)) → onward m w ws ≡ stuck (drop n ws) → (more : List Word) × (g : Formula) × (onward m w (take n ws ++ more) ≡ read g)
-    go None more i = absurd (omega (arith, ap length (same_stuck _ _ i), length-drop n ws))
+    go None more i = absurd (grind (arith, length-drop n ws))
     go (Some next) more i = more next i
 
 -- with the word at which it is stuck they cannot
@@ -65,14 +56,11 @@ dead (w ∷ ws) st zero h e more = go (step st w) e
 dead (w ∷ ws) st (suc n) h e more = go (step st w) (λ next i. dead ws next n (omega arith) i more) e
   where
     go : (m : Option State) → ((next : State) → outcome ws next ≡ stuck (drop n ws) → (rest : List Word) × (outcome (take (suc n) ws ++ more) next ≡ stuck rest)) → onward m w ws ≡ stuck (drop n ws) → (rest : List Word) × (onward m w (take (suc n) ws ++ more) ≡ stuck rest)
-    go None again i = absurd (omega (arith, ap length (same_stuck _ _ i), length-drop n ws))
+    go None again i = absurd (grind (arith, length-drop n ws))
     go (Some next) again i = again next i
 
 pub one_formula : (ws : List Word) (f g : Formula) → Rules ws f → Rules ws g → f ≡ g
-one_formula ws f g d d' = let p = sym (follows d (lit≤ tt) base) ∙ follows d' (lit≤ tt) base in unread' f g p
-  where
-    unread' : (f g : Formula) → read f ≡ read g → f ≡ g
-    unread' f g p = cc
+one_formula ws f g d d' = let same : read f ≡ read g = sym (follows d (lit≤ tt) base) ∙ follows d' (lit≤ tt) base in cc
 
 pub stuck_fails : (ws : List Word) (n : ℕ) → n ≤ length ws → outcome ws start ≡ stuck (drop n ws) → Fails ws n
 stuck_fails ws n h e = record {
@@ -88,11 +76,10 @@ fails_before ws n m p q lt =
     let (more, f, d) = q.so_far in
     let front : take m ws ≡ take (n + 1) ws ++ drop (n + 1) (take m ws) = sym (take-append-drop (n + 1) (take m ws)) ∙ ap (λ vs. vs ++ drop (n + 1) (take m ws)) (take-take (n + 1) m ws (omega arith)) in
     let all = ap (λ vs. vs ++ more) front ∙ append_assoc (take (n + 1) ws) (drop (n + 1) (take m ws)) more in
-    p.no_more (omega (arith, q.within)) (drop (n + 1) (take m ws) ++ more, f, subst (λ vs. Rules vs f) all d)
+    p.no_more (omega arith) (drop (n + 1) (take m ws) ++ more, f, subst (λ vs. Rules vs f) all d)
 
 pub fails_once : (ws : List Word) (n m : ℕ) → Fails ws n → Fails ws m → n ≡ m
 fails_once ws n m p q =
-    elim (cases_lt n m) [
-      | inl lt ↦ absurd (fails_before ws n m p q lt)
-      | inr le ↦ elim (cases_lt m n) [ inl gt ↦ absurd (fails_before ws m n q p gt) | inr ge ↦ omega arith ]
-    ]
+    let low : n < m → ⊥ = fails_before ws n m p q in
+    let high : m < n → ⊥ = fails_before ws m n q p in
+    omega arith

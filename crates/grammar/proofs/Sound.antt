@@ -1,5 +1,5 @@
 -- What the machine reads is derived.
-use Rattle.std.proofs.Common.{◌≡◌, ℕ, Bool, true, false, List, [], ◌∷◌, IfSome, Some, None, Option, sym, refl, subst, arith}
+use Rattle.std.proofs.Common.{◌≡◌, Bool, true, false, List, [], ◌∷◌, IfSome, Some, None, Option, sym, refl, subst}
 use Rattle.formulas.specs.declared.binary.Binary.TheVariants.{And, Or, Implies, Iff, Until}
 use Rattle.formulas.specs.declared.word.Word.{Word}
 use Rattle.formulas.specs.declared.word.Word.TheVariants.{Name, Constant, Open, Close, Prefix, Infix}
@@ -66,9 +66,6 @@ module _ {b : List Word} {e : Bool} {s t o a n : Slot} {v : List Word} (q : Pend
   to_same : Derives rule b ws (s (t (o (a (n f)))))
   to_same = q.sames ws _ to_then
 
-untrue : true ≡ false → ⊥
-untrue z = let x : ◌≡◌ {A = ℕ} 0 1 = cc in omega arith
-
 steps : (st : State) (w : Word) (all ws : List Word) → Good st all (w ∷ ws) → IfSome (step st w) (λ next. Good next all ws)
 unfolding Good Brackets
 steps (wants e s t o a n p k) (Name m) all ws (b, v, h, q, l) = (b, v, h, q, l ws _ a_name)
@@ -93,11 +90,11 @@ steps (has f e s t o a n k) (Infix Or) all ws (b, v, h, q, d) =
 steps (has f e s t o a n k) (Infix Implies) all ws (b, v, h, q, d) =
     (b, ws, h, record { one = q.one; two = ws; three = ws; four = ws; first = q.first; sames = q.sames; thens = λ rest g r. q.thens rest _ (an_implies (to_or q d) r); ors = λ rest g r. a_conjunction r; ands = λ rest g r. a_part r; untils = λ rest g r. r }, λ rest g r. r)
 steps (has f false s t o a n k) (Infix Iff) all ws (b, v, h, q, d) =
-    (b, ws, h, record { one = ws; two = ws; three = ws; four = ws; first = λ z. absurd (untrue z); sames = λ rest g r. an_iff (q.first refl _ _ (to_then q d)) r; thens = λ rest g r. r; ors = λ rest g r. a_conjunction r; ands = λ rest g r. a_part r; untils = λ rest g r. r }, λ rest g r. r)
+    (b, ws, h, record { one = ws; two = ws; three = ws; four = ws; first = λ z. absurd (cc); sames = λ rest g r. an_iff (q.first refl _ _ (to_then q d)) r; thens = λ rest g r. r; ors = λ rest g r. a_conjunction r; ands = λ rest g r. a_part r; untils = λ rest g r. r }, λ rest g r. r)
 steps (has f true s t o a n k) (Infix Iff) all ws x = tt
 
 pub unread : (ws : List Word) (f : Formula) → stuck ws ≡ read f → ⊥
-unread ws f h = let x : ◌≡◌ {A = ℕ} 0 1 = cc in omega arith
+unread ws f h = cc
 
 ended : (st : State) (all : List Word) (f : Formula) → Good st all [] → ends st ≡ read f → Rules all f
 unfolding Good Brackets

@@ -1,7 +1,7 @@
-use Rattle.std.specs.Prelude.{List, take}
+use Rattle.std.specs.Prelude.{List}
 use Rattle.formulas.specs.declared.node.Node.{Node}
 use Rattle.grammar.specs.declared.tree.Tree.{Tree}
 
 -- The nodes of a tree.
 abbrev pub front : Tree → List Node
-front t = take t.count t.items
+front t = t.nodes.items

@@ -13,7 +13,7 @@ pub record Grown (ws : List Word) (t : Tree) : Type 0 where
   pub formula : Formula
   pub rules : Rules ws formula
   pub listed : front t ≡ laid 0 0 formula
-  pub count : t.count ≡ nodes formula
+  pub count : length (front t) ≡ nodes formula
   pub operators : t.operators ≡ promises formula
 
 -- Words have at most one formula, and fail at one word at most.

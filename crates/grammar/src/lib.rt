@@ -3,14 +3,14 @@
 
 ghost use Rattle.grammar.specs.Parsing.{Parsed, OneFormula, OnePlace};
 
-pub mod growth;
-pub mod levels;
-pub mod misread;
-pub mod tree;
+mod levels;
+mod misread;
+mod reader;
+mod tree;
 
 use formulas::Word;
-use levels::rule;
 pub use misread::Misread;
+use reader::Reader;
 pub use tree::Tree;
 
 pub fn parse(words: &[Word]) -> Result<Tree, Misread>
@@ -21,15 +21,10 @@ pub fn parse(words: &[Word]) -> Result<Tree, Misread>
     if words.len() > 256 {
         return Err(Misread::TooManyWords);
     }
-    let mut tree = Tree::new();
-    match rule(words, 0, &mut tree) {
-        Ok(part) => {
-            if part.end < words.len() {
-                Err(Misread::NoRule(part.end))
-            } else {
-                Ok(tree)
-            }
-        }
-        Err(at) => Err(Misread::NoRule(at)),
+    let mut reader = Reader::new(words);
+    reader.rule()?;
+    if reader.at < words.len() {
+        return Err(Misread::NoRule(reader.at));
     }
+    Ok(reader.tree)
 }

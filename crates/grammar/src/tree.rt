@@ -1,17 +1,35 @@
-ghost use Rattle.std.specs.Prelude.{◌≡◌, ◌≤◌};
+ghost use Rattle.std.specs.Prelude.{◌≡◌, ◌≤◌, [], length};
+ghost use Rattle.grammar.specs.Nodes.{front};
 
+use arrayvec::ArrayVec;
 use formulas::Node;
 
-// The nodes of a formula, operands before their operators, and how many temporal operators were met so far.
+// The nodes of a formula in fixed memory, operands before their operators, and how many temporal operators were met so far.
 #[derive(Drop)]
 pub struct Tree {
-    pub(crate) items: [Node; 256],
-    pub(crate) count: usize,
+    pub(crate) nodes: ArrayVec<Node, 256>,
     pub(crate) operators: usize,
-    ghost few: { count ≤ 256 },
 }
 
 impl Tree {
+    pub(crate) fn new() -> Tree
+        ensures nodes { front result ≡ [] }
+        ensures operators { result.operators ≡ 0 }
+    {
+        Tree {
+            nodes: ArrayVec::new(),
+            operators: 0,
+        }
+    }
+
+    pub fn nodes(&self) -> &[Node]
+        ensures items { result.now ≡ front self.now }
+        ensures count { length result.now ≡ length (front self.now) }
+        ensures few { length result.now ≤ 256 }
+    {
+        self.nodes.as_slice()
+    }
+
     pub fn promises(&self) -> usize
         ensures { result ≡ self.now.operators }
     {

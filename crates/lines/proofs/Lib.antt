@@ -1,3 +1,3 @@
-pub mod Cutting
 pub mod Numbering
 pub mod Once
+pub mod Walking

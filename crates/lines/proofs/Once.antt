@@ -3,20 +3,17 @@ use Rattle.std.proofs.Common.{◌≡◌, ℕ, suc, ◌<◌, List, [], ◌∷◌,
 use Rattle.lines.specs.Lines.{Cut, Lined, none, more}
 
 -- No line feed is in it.
-abbrev Plain : List ℕ → Type 0
+abbrev pub Plain : List ℕ → Type 0
 Plain l = (k : ℕ) → k < length l → get_or l k 0 ≡ 10 → ⊥
 
 shorter : (x : ℕ) (l : List ℕ) → Plain (x ∷ l) → Plain l
 shorter x l p k lt e = p (suc k) (omega arith) e
 
-clash : {X : Type 0} → ◌≡◌ {A = ℕ} 0 1 → X
-clash z = absurd (omega arith)
-
 -- The first line feed stands at one place,
 fed_once : (l m r s : List ℕ) → Plain l → Plain m → l ++ (10 ∷ r) ≡ m ++ (10 ∷ s) → (l ≡ m) × (r ≡ s)
 fed_once [] [] r s p q e = (refl, (cc))
-fed_once [] (y ∷ m) r s p q e = absurd (q 0 (omega arith) (let z : y ≡ 10 = cc in z))
-fed_once (x ∷ l) [] r s p q e = absurd (p 0 (omega arith) (let z : x ≡ 10 = cc in z))
+fed_once [] (y ∷ m) r s p q e = absurd (q 0 (omega arith) (cc))
+fed_once (x ∷ l) [] r s p q e = absurd (p 0 (omega arith) (cc))
 fed_once (x ∷ l) (y ∷ m) r s p q e =
     let rest : l ++ (10 ∷ r) ≡ m ++ (10 ∷ s) = cc in
     let first : x ≡ y = cc in
@@ -25,9 +22,9 @@ fed_once (x ∷ l) (y ∷ m) r s p q e =
 
 -- or at none.
 not_fed : (l m r : List ℕ) → Plain m → l ++ (10 ∷ r) ≡ m → ⊥
-not_fed [] [] r p e = clash (cc)
-not_fed [] (y ∷ m) r p e = p 0 (omega arith) (let z : y ≡ 10 = cc in z)
-not_fed (x ∷ l) [] r p e = clash (cc)
+not_fed [] [] r p e = cc
+not_fed [] (y ∷ m) r p e = p 0 (omega arith) (cc)
+not_fed (x ∷ l) [] r p e = cc
 not_fed (x ∷ l) (y ∷ m) r p e = not_fed l m r (shorter y m p) (cc)
 
 pub cut_once : (text l r m s : List ℕ) → Cut text l r → Cut text m s → (l ≡ m) × (r ≡ s)

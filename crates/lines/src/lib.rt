@@ -3,6 +3,8 @@
 
 pub mod line;
 pub mod number;
+pub mod walk;
 
 pub use line::cut_line;
 pub use number::read_number;
+pub use walk::Lines;

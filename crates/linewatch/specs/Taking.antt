@@ -1,22 +1,15 @@
 -- What comes of a line of input, on a bench with look.
 use Rattle.std.specs.Prelude.{◌≡◌, ℕ, Bool, true, List, [], ◌∷◌, ◌++◌, Some, None, Ok, Err, Option, Result}
 use Rattle.events.specs.declared.sheet.SheetEvent.{SheetEvent}
-use Rattle.notation.specs.Refusals.{line_number}
 use Rattle.notation.specs.Sheets.{SheetRead}
-use Rattle.answers.specs.Numbers.{refusal_number}
 use Rattle.bench.specs.Log.{Log, Take, refusal, grown}
 use Rattle.bench.specs.Sight.{LostAt}
 use Rattle.linewatch.specs.declared.Row.{Row}
 use Rattle.linewatch.specs.declared.Step.{Step}
 use Rattle.linewatch.specs.declared.Step.TheVariants.{Struck, RowClosed, Lost}
-use Rattle.linewatch.specs.declared.TakeRefusal.{TakeRefusal}
-use Rattle.linewatch.specs.declared.TakeRefusal.TheVariants.{Line, Bench}
+use Rattle.linewatch.specs.declared.refusal.TakeRefusal.{TakeRefusal}
+use Rattle.linewatch.specs.declared.refusal.TakeRefusal.TheVariants.{Line, Bench}
 use Rattle.linewatch.specs.Rows.{row_after, row_step}
-
--- the number of a refusal is that of the line's or of the bench's
-abbrev pub take_number : TakeRefusal → ℕ
-take_number (Line x) = line_number x
-take_number (Bench x) = refusal_number x
 
 -- no number of events of the run is the one at which it is lost
 abbrev pub NotLost : {E : Type 0} → (List E → Bool) → List E → Type 0

@@ -4,44 +4,29 @@
 ghost use Rattle.std.specs.Prelude.{◌≡◌};
 ghost use Rattle.bench.specs.Calls.{LookStands};
 ghost use Rattle.linewatch.specs.Rows.{row_after, row_step};
-ghost use Rattle.linewatch.specs.Taking.{LineLaw, LostLaw, take_number};
+ghost use Rattle.linewatch.specs.Taking.{LineLaw, LostLaw};
 
-use bench::{Calls, LookBench, Refusal, Sight};
+mod refusal;
+
+use bench::{Calls, LookBench, Sight};
 use events::SheetEvent;
-use notation::{LineRefusal, Notation};
+use notation::Notation;
 use observers::{FarSighted, Observer};
+pub use refusal::TakeRefusal;
 
 // The line of the sheets that is being embossed: its number from 1, and its cells so far.
-#[derive(Clone, Copy)]
+#[derive(Clone, Copy, PartialEq, Eq, Debug)]
 pub struct Row {
     pub number: u32,
     pub cells: u32,
 }
 
 // What came of a line of input whose event was taken.
-#[derive(Clone, Copy)]
+#[derive(Clone, Copy, PartialEq, Eq, Debug)]
 pub enum Step {
     Struck,
     RowClosed(Row),
     Lost(u32),
-}
-
-// Why no event was taken.
-#[derive(Clone, Copy)]
-pub enum TakeRefusal {
-    Line(LineRefusal),
-    Bench(Refusal),
-}
-
-impl TakeRefusal {
-    pub fn number(self) -> u8
-        ensures { result ≡ take_number self }
-    {
-        match self {
-            TakeRefusal::Line(refusal) => refusal.number(),
-            TakeRefusal::Bench(refusal) => refusal.number(),
-        }
-    }
 }
 
 impl Row {
@@ -79,11 +64,8 @@ fn lost_since<O: FarSighted>(bench: &LookBench<O>) -> Option<u32>
     ensures { LostLaw (LookStands O.Observer.rule O.Observer.rest) bench.now result }
 {
     match bench.look() {
-        Ok(sight) => match sight {
-            Sight::Lost(count) => Some(count),
-            Sight::Safe(_) => None,
-            Sight::Open => None,
-        },
+        Ok(Sight::Lost(count)) => Some(count),
+        Ok(Sight::Safe(_) | Sight::Open) => None,
         Err(_) => None,
     }
 }
@@ -96,13 +78,8 @@ pub fn take_line<O: FarSighted + Observer<Event = SheetEvent>>(
 ) -> Result<Step, TakeRefusal>
     ensures { LineLaw (LookStands O.Observer.rule O.Observer.rest) bench.old row.old line.now result bench.new row.new }
 {
-    let event = match SheetEvent::read(line) {
-        Ok(event) => event,
-        Err(refusal) => return Err(TakeRefusal::Line(refusal)),
-    };
-    if let Err(refusal) = bench.take(event) {
-        return Err(TakeRefusal::Bench(refusal));
-    }
+    let event = SheetEvent::read(line)?;
+    bench.take(event)?;
     if let Some(count) = lost_since(bench) {
         return Ok(Step::Lost(count));
     }

@@ -1,22 +1,14 @@
 ghost use Rattle.notation.specs.Digits.{DigitTold};
 
-// The value of a digit 0 to 9.
-pub(crate) fn decimal(byte: u8) -> Option<u8>
-    ensures { DigitTold 10 byte result }
+// The value of a digit of a base: 0 to 9, and from ten on a small letter. By literals as match cases, and small letters alone, so not by a digit
+// test of the library.
+pub(crate) fn digit(byte: u8, base: u8) -> Option<u8>
+    ensures { DigitTold base byte result }
 {
-    match byte {
-        b'0'..=b'9' => Some(byte - b'0'),
-        _ => None,
-    }
-}
-
-// The value of a digit 0 to 9 or a to f.
-pub(crate) fn hexadecimal(byte: u8) -> Option<u8>
-    ensures { DigitTold 16 byte result }
-{
-    match byte {
-        b'0'..=b'9' => Some(byte - b'0'),
-        b'a'..=b'f' => Some(byte - b'a' + 10),
-        _ => None,
-    }
+    let value = match byte {
+        b'0'..=b'9' => byte - b'0',
+        b'a'.. => byte - b'a' + 10,
+        _ => return None,
+    };
+    (value < base).then_some(value)
 }

@@ -4,7 +4,8 @@ ghost use Rattle.notation.specs.declared.refusal.LineRefusal.{LineRefusal};
 use crate::refusal::LineRefusal;
 use events::Kind;
 
-// A kind whose events are written on lines: `means` holds of a line and of what reading it answers, and of nothing else.
+// A kind whose events are written on lines: `means` holds of a line and of what reading it answers, and of nothing else. Contracts above cite
+// `written` and `means` side by side, since a member that pairs them would be a third one to keep equal to both.
 pub trait Notation: Kind {
     ghost written: { Self → List ℕ };
 

@@ -2,11 +2,13 @@ ghost use Rattle.notation.specs.Machines.{word_line, WordTold, MachineRead};
 ghost use Rattle.notation.specs.Once.{machine_once};
 ghost use Rattle.std.proofs.Common.{rules};
 
-use crate::digits::hexadecimal;
+use crate::digits::digit;
 use crate::line::Notation;
 use crate::refusal::LineRefusal;
 use events::MachineEvent;
 
+// The word of eight small hexadecimal digits; `lines::read_number` takes other lengths, and the library's numerals of base 16, by which one
+// function would serve both, take capitals too.
 fn read_word(line: &[u8]) -> Option<u32>
     ensures { WordTold line.now result }
 {
@@ -15,10 +17,8 @@ fn read_word(line: &[u8]) -> Option<u32>
     }
     let mut word: u32 = 0;
     for byte in line {
-        let Some(digit) = hexadecimal(*byte) else {
-            return None;
-        };
-        word = word * 16 + u32::from(digit);
+        let value = digit(*byte, 16)?;
+        word = word * 16 + u32::from(value);
     }
     Some(word)
 }
@@ -35,10 +35,7 @@ impl Notation for MachineEvent {
     ghost once = { machine_once };
 
     fn read(line: &[u8]) -> Result<MachineEvent, LineRefusal> {
-        let Some(word) = read_word(line) else {
-            return Err(LineRefusal::NotAnEvent);
-        };
-        let event = MachineEvent::new(word)?;
-        Ok(event)
+        let word = read_word(line).ok_or(LineRefusal::NotAnEvent)?;
+        Ok(MachineEvent::new(word)?)
     }
 }

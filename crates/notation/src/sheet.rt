@@ -3,7 +3,7 @@ ghost use Rattle.notation.specs.Sheets.{sheet_line, SheetRead};
 ghost use Rattle.notation.specs.Once.{sheet_once};
 ghost use Rattle.std.proofs.Common.{rules};
 
-use crate::digits::decimal;
+use crate::digits::digit;
 use crate::line::Notation;
 use crate::refusal::LineRefusal;
 use events::{Cell, SheetEvent};
@@ -11,12 +11,8 @@ use events::{Cell, SheetEvent};
 fn read_cell(tens: u8, ones: u8) -> Result<SheetEvent, LineRefusal>
     ensures { SheetRead (codes "c" ++ (tens ∷ ones ∷ [])) result }
 {
-    let Some(t) = decimal(tens) else {
-        return Err(LineRefusal::NotAnEvent);
-    };
-    let Some(o) = decimal(ones) else {
-        return Err(LineRefusal::NotAnEvent);
-    };
+    let t = digit(tens, 10).ok_or(LineRefusal::NotAnEvent)?;
+    let o = digit(ones, 10).ok_or(LineRefusal::NotAnEvent)?;
     let cell = Cell::new(10 * t + o)?;
     Ok(SheetEvent::Struck(cell))
 }

@@ -31,9 +31,7 @@ impl<E: Copy, X: Observer<Event = E>, Y: Observer<Event = E>> Observer for Both<
     }
 
     fn mark(&self) -> bool {
-        let left = self.left.mark();
-        let right = self.right.mark();
-        left & right
+        self.left.mark() && self.right.mark()
     }
 
     fn restart(&mut self) {

@@ -4,6 +4,7 @@ ghost use Rattle.observers.specs.Foresight.{Foresees};
 // Watches a run of events, one by one.
 //     rule   the runs that it keeps
 //     rest   the continuations that would now be kept
+// Contracts above cite both side by side, since a member that pairs them would be a third one to keep equal to both.
 pub trait Observer {
     type Event;
 

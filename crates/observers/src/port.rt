@@ -1,9 +1,10 @@
-ghost use Rattle.std.specs.Prelude.{◌≡◌, List, Option};
+ghost use Rattle.std.specs.Prelude.{◌≡◌, Option};
 ghost use Rattle.observers.specs.Turned.{turned};
 
 use crate::observer::Observer;
 
-// A turning of events: each becomes one event of the kind below, or none.
+// A turning of events: each becomes one event of the kind below, or none. It is no closure, since rule and rest need it as
+// a function, and a closure's contract only relates what it is given to what it may answer.
 pub trait Turning {
     type Above;
 
@@ -31,14 +32,14 @@ impl<T, O> Port<T, O> {
     }
 }
 
-impl<E, F, T: Turning<Above = E, Under = F>, O: Observer<Event = F>> Observer for Port<T, O> {
-    type Event = E;
+impl<T: Turning, O: Observer<Event = T::Under>> Observer for Port<T, O> {
+    type Event = T::Above;
 
     ghost rule = { λ s t. O.Observer.rule s.below (turned (T.Turning.turning s.turns) t) };
 
     ghost rest = { λ s t. O.Observer.rest s.below (turned (T.Turning.turning s.turns) t) };
 
-    fn take(&mut self, e: E) {
+    fn take(&mut self, e: T::Above) {
         if let Some(f) = self.turns.turn(e) {
             self.below.take(f);
         }

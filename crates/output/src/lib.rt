@@ -1,7 +1,6 @@
 // Bytes put one after another, where want of memory is remembered and told at the end.
 #![tactic(auto)]
 
-pub mod digits;
 pub mod putting;
 pub mod writer;
 

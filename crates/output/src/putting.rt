@@ -1,25 +1,17 @@
-ghost use Rattle.std.specs.Prelude.{[], ◌∷◌};
-ghost use Rattle.output.specs.Writing.{Sound, Wrote, Finished};
+ghost use Rattle.std.specs.Prelude.{[], ◌∷◌, decimal};
+ghost use Rattle.output.specs.Writing.{Wrote};
 
 use crate::writer::Writer;
-use std::alloc::AllocError;
+use itoa::Buffer;
 
 impl Writer {
-    // Puts behind the bytes that are given, with the room that they have.
-    pub fn over(bytes: Vec<u8>) -> Writer
-        ensures { Sound bytes result }
-    {
-        Writer {
-            bytes,
-            failed: false,
-        }
-    }
-
     pub fn put(&mut self, bytes: &[u8])
         ensures { Wrote self.old bytes.now self.new }
     {
-        if !self.failed {
-            self.failed = self.bytes.extend_from_slice(bytes).is_err();
+        if let Ok(held) = &mut self.bytes {
+            if let Err(short) = held.extend_from_slice(bytes) {
+                self.bytes = Err(short);
+            }
         }
     }
 
@@ -29,13 +21,10 @@ impl Writer {
         self.put(&[byte]);
     }
 
-    // All that was put, unless memory ran short.
-    pub fn finish(self) -> Result<Vec<u8>, AllocError>
-        ensures { Finished self result }
+    // The number in decimal digits.
+    pub fn put_number(&mut self, n: usize)
+        ensures { Wrote self.old (decimal n) self.new }
     {
-        if self.failed {
-            return Err(AllocError);
-        }
-        Ok(self.bytes)
+        self.put(Buffer::new().format(n).as_bytes());
     }
 }

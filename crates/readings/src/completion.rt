@@ -1,38 +1,34 @@
-use crate::splits::{bracketed, open_brackets};
-use events::Kind;
+use crate::splits::{formula, open_brackets};
+use crate::words::Word;
 use std::alloc::{AllocError, Global};
+use std::iter::repeat_n;
 
 // Whether the words, then some more, then a closing of all that is open, are a rule.
-fn ends_well<K: Kind>(
-    heap: Global,
-    words: &[u8],
-    more: &[u8],
-    open: usize,
-) -> Result<bool, AllocError> {
-    let mut whole = Vec::from_slice(heap, words)?;
-    whole.extend_from_slice(more)?;
-    for _ in 0..open {
-        whole.push(b')')?;
-    }
-    Ok(bracketed::<K>(heap, whole.as_slice())?.is_some())
+fn ends_well(heap: Global, words: &[Word], more: &[Word], open: usize) -> Result<bool, AllocError> {
+    let whole: Vec<Word> = words
+        .iter()
+        .chain(more)
+        .copied()
+        .chain(repeat_n(Word::Close, open))
+        .collect(heap)?;
+    Ok(formula(heap, whole.as_slice())?.is_some())
 }
 
 // Whether further words, or none, make a rule of these: a closing of the open brackets does, or a constant before it.
-fn completable<K: Kind>(heap: Global, words: &[u8]) -> Result<bool, AllocError> {
-    match open_brackets(words) {
-        Some(open) => Ok(
-            ends_well::<K>(heap, words, b"", open)? || ends_well::<K>(heap, words, b"1", open)?,
-        ),
-        None => Ok(false),
-    }
+fn completable(heap: Global, words: &[Word]) -> Result<bool, AllocError> {
+    let Ok(open) = open_brackets(words) else {
+        return Ok(false);
+    };
+    Ok(ends_well(heap, words, &[], open)? || ends_well(heap, words, &[Word::Atom("1")], open)?)
 }
 
-// The index of the first word with which the words cannot be completed any more, or their number where all can.
-pub fn first_stray<K: Kind>(heap: Global, words: &[u8]) -> Result<usize, AllocError> {
+// The index of the first word with which the words cannot be completed any more, if there is one. A `for` over the lengths, since the test can
+// run out of memory, and `find` takes none that fails.
+pub fn first_stray(heap: Global, words: &[Word]) -> Result<Option<usize>, AllocError> {
     for i in 0..words.len() {
-        if !completable::<K>(heap, &words[0..i + 1])? {
-            return Ok(i);
+        if !completable(heap, &words[..=i])? {
+            return Ok(Some(i));
         }
     }
-    Ok(words.len())
+    Ok(None)
 }

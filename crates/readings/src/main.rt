@@ -3,122 +3,37 @@
 
 mod completion;
 mod refusal;
+mod reports;
 mod second;
 mod splits;
 mod table;
 mod words;
 
-use events::{Kind, MachineEvent, SheetEvent};
-use output::Writer;
-use ruletext::report;
-use std::alloc::{AllocError, Global};
+use reports::Reports;
 use std::io;
 use std::io::{BufRead, BufReader};
-use table::{Entry, Names};
+use table::Entry;
 
-// How the reports of one text stand to each other and to the answer of the table.
-#[derive(Clone, Copy)]
-enum Finding {
-    Alike,
-    FirstLines,
-    Below,
-}
-
-// The reports of one text.
-#[derive(Drop)]
-struct Reports {
-    second: String,
-    library: Vec<u8>,
-}
-
-fn library_report<K: Kind>(heap: Global, text: &[u8]) -> Result<Vec<u8>, AllocError> {
-    let mut told = Writer::over(Vec::new(heap));
-    report::<K>(text, &mut told);
-    told.finish()
-}
-
-impl Reports {
-    fn of<K: Kind>(heap: Global, text: &[u8]) -> Result<Reports, AllocError> {
-        Ok(Reports {
-            second: second::report::<K>(heap, text)?,
-            library: library_report::<K>(heap, text)?,
-        })
-    }
-
-    fn finding(&self, answer: &[u8]) -> Finding {
-        let second = first_line(self.second.as_bytes());
-        let library = first_line(self.library.as_slice());
-        if second != answer || library != answer {
-            Finding::FirstLines
-        } else if self.second.as_bytes() != self.library.as_slice() {
-            Finding::Below
-        } else {
-            Finding::Alike
-        }
-    }
-}
-
-fn first_line(report: &[u8]) -> &[u8] {
-    for (end, byte) in report.iter().enumerate() {
-        if *byte == b'\n' {
-            return &report[0..end];
-        }
-    }
-    report
-}
-
-fn tell(rt: &HostRuntime, number: u64, answer: &[u8], reports: &Reports) -> io::Result<()> {
-    let heap = rt.alloc();
-    let want = second::shown(heap, answer)?;
-    let second = second::shown(heap, first_line(reports.second.as_bytes()))?;
-    let library = second::shown(heap, first_line(reports.library.as_slice()))?;
-    println!(rt; "line {number}: want {want}, second {second}, library {library}")
-}
-
-// Whether an entry's text is read as the table says, and alike by both; where not, tells so.
-fn alike(rt: &HostRuntime, number: u64, entry: Entry<'_>) -> io::Result<bool> {
-    let heap = rt.alloc();
-    let reports = match entry.names {
-        Names::Sheet => Reports::of::<SheetEvent>(heap, entry.text)?,
-        Names::Machine => Reports::of::<MachineEvent>(heap, entry.text)?,
+// Whether a line's text is read as its answer says, and alike by both; where not, tells so.
+fn alike(rt: &HostRuntime, number: u64, line: &[u8]) -> io::Result<bool> {
+    let Some(entry) = Entry::of(line) else {
+        println!(rt; "line {number}: no entry")?;
+        return Ok(false);
     };
-    match reports.finding(entry.answer) {
-        Finding::Alike => Ok(true),
-        Finding::FirstLines => {
-            tell(rt, number, entry.answer, &reports)?;
-            Ok(false)
-        }
-        Finding::Below => {
-            println!(rt; "line {number}: the reports differ below their first line")?;
-            Ok(false)
-        }
+    let reports = Reports::of(rt.alloc(), entry)?;
+    if let Err(difference) = reports.compare(entry.answer) {
+        println!(rt; "line {number}: {difference}")?;
+        return Ok(false);
     }
+    Ok(true)
 }
 
-fn line_alike(rt: &HostRuntime, number: u64, line: &[u8]) -> io::Result<bool> {
-    match Entry::of(line) {
-        Some(entry) => alike(rt, number, entry),
-        None => {
-            println!(rt; "line {number}: no entry")?;
-            Ok(false)
-        }
-    }
-}
-
-fn run(rt: &HostRuntime) -> anyhow::Result<()> {
-    let mut input = BufReader::new(rt.alloc(), rt.stdin())?;
-    let mut line = Vec::new(rt.alloc());
+fn main(rt: HostRuntime) -> anyhow::Result<()> {
+    let input = BufReader::new(rt.alloc(), rt.stdin())?;
     let mut same: u64 = 0;
     let mut differ: u64 = 0;
-    for number in 1..u64::MAX {
-        line.clear();
-        if input.read_until(b'\n', &mut line)? == 0 {
-            break;
-        }
-        if line.last() == Some(&b'\n') {
-            let _ = line.pop();
-        }
-        if line_alike(rt, number, line.as_slice())? {
+    for (number, line) in (1..u64::MAX).zip(input.split(rt.alloc(), b'\n')) {
+        if alike(&rt, number, line?.as_slice())? {
             same += 1;
         } else {
             differ += 1;
@@ -126,8 +41,4 @@ fn run(rt: &HostRuntime) -> anyhow::Result<()> {
     }
     println!(rt; "{same} texts read alike, {differ} differ")?;
     Ok(())
-}
-
-fn main(rt: HostRuntime) -> anyhow::Result<()> {
-    run(&rt)
 }

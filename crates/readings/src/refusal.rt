@@ -1,4 +1,5 @@
 use std::alloc::{AllocError, AllocFailed};
+use std::fmt;
 
 // Why a text is no rule, by number.
 #[derive(Clone, Copy)]
@@ -18,27 +19,46 @@ pub struct Fault {
     pub place: usize,
 }
 
-// What ends a reading early.
-#[derive(Drop)]
-pub enum Stop {
-    Memory(AllocError),
-    Text(Fault),
-}
-
-impl Stop {
-    pub fn at(place: usize, refusal: Refusal) -> Stop {
-        Stop::Text(Fault { refusal, place })
+impl fmt::Display for Fault {
+    fn fmt<W: fmt::Write>(&self, f: &mut fmt::Formatter<W>) -> fmt::Result {
+        let number = self.refusal as u8;
+        let place = self.place;
+        write!(f, "fault {number} at {place}")
     }
 }
 
-impl From<AllocError> for Stop {
-    fn from(error: AllocError) -> Stop {
+// The words are no rule.
+#[derive(Clone, Copy)]
+pub struct NoRule;
+
+// What ends a reading early: want of memory, or what is wrong with the text.
+#[derive(Drop)]
+pub enum Stop<E> {
+    Memory(AllocError),
+    Text(E),
+}
+
+// One impl for every E would overlap with the one for want of memory.
+impl From<Fault> for Stop<Fault> {
+    fn from(fault: Fault) -> Stop<Fault> {
+        Stop::Text(fault)
+    }
+}
+
+impl From<NoRule> for Stop<NoRule> {
+    fn from(no_rule: NoRule) -> Stop<NoRule> {
+        Stop::Text(no_rule)
+    }
+}
+
+impl<E> From<AllocError> for Stop<E> {
+    fn from(error: AllocError) -> Stop<E> {
         Stop::Memory(error)
     }
 }
 
-impl<T: Drop> From<AllocFailed<T>> for Stop {
-    fn from(_refused: AllocFailed<T>) -> Stop {
+impl<E, T: Drop> From<AllocFailed<T>> for Stop<E> {
+    fn from(_refused: AllocFailed<T>) -> Stop<E> {
         Stop::Memory(AllocError)
     }
 }

@@ -1,10 +1,12 @@
-// The second reading of a rule text, and its report.
+// The second reading of a rule text, and its report. Its words, refusals, limits and printing are its own, though alike, since it shares no code
+// with the library.
 use crate::completion::first_stray;
 use crate::refusal::{Fault, Refusal, Stop};
-use crate::splits::bracketed;
-use crate::words::{Words, is_bracket, is_temporal};
+use crate::splits::formula;
+use crate::words::{Word, words_of};
 use events::Kind;
 use std::alloc::{AllocError, Global};
+use std::fmt;
 
 const LONGEST_TEXT: usize = 256;
 
@@ -19,89 +21,86 @@ struct Reading {
     formula: String,
 }
 
-// The places of the nodes of a rule, and of the temporal operators among them.
-#[derive(Drop)]
-struct Nodes {
-    all: Vec<usize>,
-    temporal: Vec<usize>,
+impl fmt::Display for Reading {
+    fn fmt<W: fmt::Write>(&self, f: &mut fmt::Formatter<W>) -> fmt::Result {
+        let nodes = self.nodes;
+        let promises = self.promises;
+        let formula = self.formula.as_str();
+        write!(f, "nodes {nodes} promises {promises}\n{formula}\n")
+    }
 }
 
-impl Nodes {
-    fn of(heap: Global, words: &Words) -> Result<Nodes, AllocError> {
-        let mut nodes = Nodes {
-            all: Vec::new(heap),
-            temporal: Vec::new(heap),
-        };
-        for (word, place) in words.bytes.iter().zip(words.places.iter()) {
-            if !is_bracket(*word) {
-                nodes.all.push(*place)?;
-            }
-            if is_temporal(*word) {
-                nodes.temporal.push(*place)?;
-            }
+// Bytes as text, with a question mark for each that is no printed character.
+#[derive(Clone, Copy)]
+pub struct Shown<'a>(pub &'a [u8]);
+
+impl fmt::Display for Shown<'_> {
+    fn fmt<W: fmt::Write>(&self, f: &mut fmt::Formatter<W>) -> fmt::Result {
+        for byte in self.0 {
+            f.write_char(match byte {
+                b' '..=b'~' => char::from(*byte),
+                _ => '?',
+            })?;
         }
-        Ok(nodes)
+        Ok(())
     }
 }
 
-fn read<K: Kind>(heap: Global, text: &[u8]) -> Result<Reading, Stop> {
+// How many places there are; with more than the most, the fault stands at the first that is too many.
+fn count(places: &[usize], most: usize, refusal: Refusal) -> Result<usize, Fault> {
+    match places.get(most) {
+        Some(place) => Err(Fault {
+            refusal,
+            place: *place,
+        }),
+        None => Ok(places.len()),
+    }
+}
+
+fn read<K: Kind>(heap: Global, text: &[u8]) -> Result<Reading, Stop<Fault>> {
     if text.len() > LONGEST_TEXT {
-        return Err(Stop::at(LONGEST_TEXT, Refusal::LongText));
+        return Err(Stop::Text(Fault {
+            refusal: Refusal::LongText,
+            place: LONGEST_TEXT,
+        }));
     }
-    let words = Words::of::<K>(heap, text)?;
-    let Some(formula) = bracketed::<K>(heap, words.bytes.as_slice())? else {
-        let stray = first_stray::<K>(heap, words.bytes.as_slice())?;
-        let place = words.places.get(stray).copied().unwrap_or(text.len());
-        return Err(Stop::at(place, Refusal::NoRule));
+    let placed = words_of::<K>(heap, text)?;
+    let words: Vec<Word> = placed.iter().map(|word| word.part).collect(heap)?;
+    let Some(formula) = formula(heap, words.as_slice())? else {
+        let stray = first_stray(heap, words.as_slice())?;
+        let place = stray
+            .and_then(|i| placed.get(i))
+            .map_or(text.len(), |word| word.place);
+        return Err(Stop::Text(Fault {
+            refusal: Refusal::NoRule,
+            place,
+        }));
     };
-    let nodes = Nodes::of(heap, &words)?;
-    if let Some(place) = nodes.all.get(MOST_NODES) {
-        return Err(Stop::at(*place, Refusal::ManyNodes));
-    }
-    if let Some(place) = nodes.temporal.get(MOST_PROMISES) {
-        return Err(Stop::at(*place, Refusal::ManyPromises));
-    }
+    let nodes: Vec<usize> = placed
+        .iter()
+        .filter(|word| !word.part.is_bracket())
+        .map(|word| word.place)
+        .collect(heap)?;
+    let promises: Vec<usize> = placed
+        .iter()
+        .filter(|word| word.part.is_temporal())
+        .map(|word| word.place)
+        .collect(heap)?;
     Ok(Reading {
-        nodes: nodes.all.len(),
-        promises: nodes.temporal.len(),
+        nodes: count(nodes.as_slice(), MOST_NODES, Refusal::ManyNodes)?,
+        promises: count(promises.as_slice(), MOST_PROMISES, Refusal::ManyPromises)?,
         formula,
     })
 }
 
-// Bytes as text, with a question mark for each that is no printed character.
-pub fn shown(heap: Global, bytes: &[u8]) -> Result<String, AllocError> {
-    let mut out = String::new(heap);
-    for byte in bytes {
-        let letter = match *byte {
-            32..=126 => char::from(*byte),
-            _ => '?',
-        };
-        out.push(letter)?;
-    }
-    Ok(out)
-}
-
-fn refused(heap: Global, text: &[u8], fault: Fault) -> Result<String, AllocError> {
-    let number = fault.refusal as u8;
-    let place = fault.place;
-    let text = shown(heap, text)?;
-    let mut out = format!(in heap; "fault {number} at {place}\n{text}\n")?;
-    for _ in 0..place {
-        out.push(' ')?;
-    }
-    out.push_str("^\n")?;
-    Ok(out)
-}
-
 pub fn report<K: Kind>(heap: Global, text: &[u8]) -> Result<String, AllocError> {
     match read::<K>(heap, text) {
-        Ok(reading) => {
-            let nodes = reading.nodes;
-            let promises = reading.promises;
-            let formula = reading.formula.as_str();
-            format!(in heap; "nodes {nodes} promises {promises}\n{formula}\n")
+        Ok(reading) => format!(in heap; "{reading}"),
+        Err(Stop::Text(fault)) => {
+            let shown = Shown(text);
+            let place = fault.place;
+            format!(in heap; "{fault}\n{shown}\n{:place$}^\n", "")
         }
-        Err(Stop::Text(fault)) => refused(heap, text, fault),
         Err(Stop::Memory(error)) => Err(error),
     }
 }

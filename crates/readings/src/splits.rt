@@ -1,139 +1,112 @@
-ghost use Rattle.readings.specs.Splits.{Both, Inside};
-ghost use Rattle.std.specs.Prelude.{length};
+ghost use Rattle.std.specs.Prelude.{◌<◌, length, IfOk, IfSome};
 
-use crate::words::name_of;
-use events::Kind;
+use crate::refusal::{NoRule, Stop};
+use crate::words::{Joint, Word};
 use std::alloc::{AllocError, Global};
 
-// How parts that one operator joins are grouped; `=` joins two parts and no more.
-#[derive(Clone, Copy)]
-enum Grouping {
-    None,
-    Right,
-    Left,
-}
-
 // The operators between two parts, the weakest first.
-const JOINTS: [(u8, Grouping); 5] = [
-    (b'=', Grouping::None),
-    (b'>', Grouping::Right),
-    (b'|', Grouping::Left),
-    (b'&', Grouping::Left),
-    (b'U', Grouping::Right),
+const JOINTS: [Joint; 5] = [
+    Joint::Agrees,
+    Joint::Implies,
+    Joint::Or,
+    Joint::And,
+    Joint::Until,
 ];
 
-// Where words are split in two: at an operator, nowhere, or not at all since they are no rule.
-#[derive(Clone, Copy)]
-enum Split {
-    At(usize),
-    Nowhere,
-    NoRule,
-}
-
-// How many brackets are open after the words; none where one closes that was not open.
-pub fn open_brackets(words: &[u8]) -> Option<usize> {
+// How many brackets are open after the words, where none closes that was not open.
+pub fn open_brackets(words: &[Word]) -> Result<usize, NoRule> {
     let mut open: usize = 0;
     for word in words {
-        match *word {
-            b'(' => open += 1,
-            b')' => open = open.checked_sub(1)?,
+        match word {
+            Word::Open => open += 1,
+            Word::Close => open = open.checked_sub(1).ok_or(NoRule)?,
             _ => {}
         }
     }
-    Some(open)
+    Ok(open)
 }
 
 // The first and the last index of an operator outside brackets.
-fn outside(words: &[u8], operator: u8) -> Option<(usize, usize)>
-    ensures { Both (length words.now) result }
+fn outside(words: &[Word], operator: Joint) -> Option<(usize, usize)>
+    ensures { IfSome result (λ p. (p.0 < length words.now) × (p.1 < length words.now)) }
 {
     let mut found = None;
     let mut open: usize = 0;
     for (i, word) in words.iter().enumerate() {
-        match *word {
-            b'(' => open += 1,
-            b')' => open = open.saturating_sub(1),
-            other => {
-                if other == operator && open == 0 {
-                    found = match found {
-                        None => Some((i, i)),
-                        Some((first, _)) => Some((first, i)),
-                    };
-                }
+        match word {
+            Word::Open => open += 1,
+            Word::Close => open = open.saturating_sub(1),
+            Word::Between(joint) if *joint == operator && open == 0 => {
+                found = match found {
+                    None => Some((i, i)),
+                    Some((first, _)) => Some((first, i)),
+                };
             }
+            _ => {}
         }
     }
     found
 }
 
-impl Split {
-    // The split at the weakest operator outside brackets.
-    fn of(words: &[u8]) -> Split
-        ensures { Inside (length words.now) result }
-    {
-        if open_brackets(words) != Some(0) {
-            return Split::NoRule;
+// What stands before and after an operator.
+#[derive(Clone, Copy)]
+struct Parts<'a> {
+    left: &'a [Word],
+    operator: Joint,
+    right: &'a [Word],
+}
+
+// The words split at the weakest operator outside brackets, if there is one: `=` joins two parts and no more, `>` and `U` group to the right, `|` and `&` to the left.
+fn split(words: &[Word]) -> Result<Option<Parts<'_>>, NoRule>
+    ensures { IfOk result (λ o. IfSome o (λ s. (length s.left.now < length words.now) × (length s.right.now < length words.now))) }
+{
+    if open_brackets(words)? != 0 {
+        return Err(NoRule);
+    }
+    for operator in JOINTS {
+        if let Some((first, last)) = outside(words, operator) {
+            let at = match operator {
+                Joint::Agrees if first != last => return Err(NoRule),
+                Joint::Agrees | Joint::Implies | Joint::Until => first,
+                Joint::Or | Joint::And => last,
+            };
+            return Ok(Some(Parts {
+                left: &words[..at],
+                operator,
+                right: &words[at + 1..],
+            }));
         }
-        for (operator, grouping) in JOINTS {
-            if let Some((first, last)) = outside(words, operator) {
-                return match grouping {
-                    Grouping::Right => Split::At(first),
-                    Grouping::Left => Split::At(last),
-                    Grouping::None => {
-                        if first == last {
-                            Split::At(first)
-                        } else {
-                            Split::NoRule
-                        }
-                    }
-                };
+    }
+    Ok(None)
+}
+
+// The heap goes from call to call beside the words, since one struct of both would be made anew for each part.
+fn bracketed(heap: Global, words: &[Word]) -> Result<String, Stop<NoRule>> {
+    if let Some(parts) = split(words)? {
+        let left = bracketed(heap, parts.left)?;
+        let right = bracketed(heap, parts.right)?;
+        let operator = parts.operator;
+        return Ok(format!(in heap; "({left} {operator} {right})")?);
+    }
+    match words {
+        [Word::Open, inner @ .., Word::Close] => bracketed(heap, inner),
+        [first, rest @ ..] => match first {
+            Word::Atom(text) if rest.is_empty() => Ok(String::from_str(heap, text)?),
+            Word::Before(operator) => {
+                let operand = bracketed(heap, rest)?;
+                Ok(format!(in heap; "({operator} {operand})")?)
             }
-        }
-        Split::Nowhere
+            _ => Err(Stop::Text(NoRule)),
+        },
+        [] => Err(Stop::Text(NoRule)),
     }
 }
 
-fn is_prefix(word: u8) -> bool {
-    matches!(word, b'!' | b'X' | b'N' | b'F' | b'G')
-}
-
-fn atom<K: Kind>(heap: Global, word: u8) -> Result<Option<String>, AllocError> {
-    let text = match word {
-        b'1' => "1",
-        b'0' => "0",
-        _ => match name_of::<K>(word) {
-            Some(name) => name,
-            None => return Ok(None),
-        },
-    };
-    Ok(Some(String::from_str(heap, text)?))
-}
-
-// The words as a formula with all its brackets, or none where they are no rule.
-pub fn bracketed<K: Kind>(heap: Global, words: &[u8]) -> Result<Option<String>, AllocError> {
-    match Split::of(words) {
-        Split::NoRule => Ok(None),
-        Split::At(at) => {
-            let Some(left) = bracketed::<K>(heap, &words[0..at])? else {
-                return Ok(None);
-            };
-            let Some(right) = bracketed::<K>(heap, &words[at + 1..])? else {
-                return Ok(None);
-            };
-            let operator = char::from(words[at]);
-            Ok(Some(format!(in heap; "({left} {operator} {right})")?))
-        }
-        Split::Nowhere => match words {
-            [word] => atom::<K>(heap, *word),
-            [b'(', .., b')'] => bracketed::<K>(heap, &words[1..words.len() - 1]),
-            [operator, ..] if is_prefix(*operator) => {
-                let Some(operand) = bracketed::<K>(heap, &words[1..])? else {
-                    return Ok(None);
-                };
-                let operator = char::from(*operator);
-                Ok(Some(format!(in heap; "({operator} {operand})")?))
-            }
-            _ => Ok(None),
-        },
+// The words as a formula with all its brackets, where they are a rule.
+pub fn formula(heap: Global, words: &[Word]) -> Result<Option<String>, AllocError> {
+    match bracketed(heap, words) {
+        Ok(formula) => Ok(Some(formula)),
+        Err(Stop::Text(NoRule)) => Ok(None),
+        Err(Stop::Memory(error)) => Err(error),
     }
 }

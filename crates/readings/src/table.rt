@@ -1,34 +1,24 @@
-// Which events the names of a text are of.
-#[derive(Clone, Copy)]
-pub enum Names {
-    Sheet,
-    Machine,
-}
+use notation::KindLetter;
 
-// A line of the table: a text, and the first line of its report.
+// A line of the table: the letter of a kind, the first line of a text's report, and the text.
 #[derive(Clone, Copy)]
 pub struct Entry<'a> {
-    pub names: Names,
+    pub kind: KindLetter,
     pub answer: &'a [u8],
     pub text: &'a [u8],
 }
 
 impl<'a> Entry<'a> {
     pub fn of(line: &'a [u8]) -> Option<Entry<'a>> {
-        let (names, rest) = match line {
-            [b's', b' ', rest @ ..] => (Names::Sheet, rest),
-            [b'm', b' ', rest @ ..] => (Names::Machine, rest),
-            _ => return None,
+        let [letter, b' ', rest @ ..] = line else {
+            return None;
         };
-        for i in 0..rest.len() {
-            if let [b':', b' ', text @ ..] = &rest[i..] {
-                return Some(Entry {
-                    names,
-                    answer: &rest[0..i],
-                    text,
-                });
-            }
-        }
-        None
+        let kind = KindLetter::try_from(*letter).ok()?;
+        let colon = rest.windows(2).position(|pair| pair == b": ".as_slice())?;
+        Some(Entry {
+            kind,
+            answer: &rest[..colon],
+            text: &rest[colon + 2..],
+        })
     }
 }

@@ -1,89 +1,143 @@
-use crate::refusal::{Refusal, Stop};
+use crate::refusal::{Fault, Refusal, Stop};
 use events::Kind;
-use std::alloc::Global;
+use std::alloc::{AllocError, Global};
+use std::fmt;
 
 const LONGEST_NAME: usize = 8;
 
-const FIRST_NAME: u8 = 128;
-
-// The words of a text: a sign is its own byte, and the name of number n is the byte 128 + n. Each has its place in the text.
-#[derive(Drop)]
-pub struct Words {
-    pub bytes: Vec<u8>,
-    pub places: Vec<usize>,
+// An operator before its operand.
+#[derive(Clone, Copy)]
+pub enum Prefix {
+    Not,
+    Next,
+    WeakNext,
+    Finally,
+    Globally,
 }
 
-pub fn is_temporal(word: u8) -> bool {
-    matches!(word, b'X' | b'N' | b'F' | b'G' | b'U')
+impl fmt::Display for Prefix {
+    fn fmt<W: fmt::Write>(&self, f: &mut fmt::Formatter<W>) -> fmt::Result {
+        f.write_str(match self {
+            Prefix::Not => "!",
+            Prefix::Next => "X",
+            Prefix::WeakNext => "N",
+            Prefix::Finally => "F",
+            Prefix::Globally => "G",
+        })
+    }
 }
 
-pub fn is_bracket(word: u8) -> bool {
-    matches!(word, b'(' | b')')
+// An operator between two parts.
+#[derive(Clone, Copy, PartialEq)]
+pub enum Joint {
+    Agrees,
+    Implies,
+    Or,
+    And,
+    Until,
 }
 
-fn is_sign(byte: u8) -> bool {
-    matches!(byte, b'1' | b'0' | b'!' | b'&' | b'|' | b'>' | b'=')
-        || is_bracket(byte)
-        || is_temporal(byte)
+impl fmt::Display for Joint {
+    fn fmt<W: fmt::Write>(&self, f: &mut fmt::Formatter<W>) -> fmt::Result {
+        f.write_str(match self {
+            Joint::Agrees => "=",
+            Joint::Implies => ">",
+            Joint::Or => "|",
+            Joint::And => "&",
+            Joint::Until => "U",
+        })
+    }
 }
 
-// The letters that stand at the start of the text, up to the first byte that is none.
-fn letters(text: &[u8]) -> &[u8] {
-    for (end, byte) in text.iter().enumerate() {
-        if !byte.is_ascii_lowercase() {
-            return &text[0..end];
+// A word of a rule text; an atom is a name or a constant, as it is written.
+#[derive(Clone, Copy)]
+pub enum Word {
+    Open,
+    Close,
+    Atom(&'static str),
+    Before(Prefix),
+    Between(Joint),
+}
+
+impl Word {
+    fn sign(byte: u8) -> Result<Word, Refusal> {
+        match byte {
+            b'(' => Ok(Word::Open),
+            b')' => Ok(Word::Close),
+            b'1' => Ok(Word::Atom("1")),
+            b'0' => Ok(Word::Atom("0")),
+            b'!' => Ok(Word::Before(Prefix::Not)),
+            b'X' => Ok(Word::Before(Prefix::Next)),
+            b'N' => Ok(Word::Before(Prefix::WeakNext)),
+            b'F' => Ok(Word::Before(Prefix::Finally)),
+            b'G' => Ok(Word::Before(Prefix::Globally)),
+            b'=' => Ok(Word::Between(Joint::Agrees)),
+            b'>' => Ok(Word::Between(Joint::Implies)),
+            b'|' => Ok(Word::Between(Joint::Or)),
+            b'&' => Ok(Word::Between(Joint::And)),
+            b'U' => Ok(Word::Between(Joint::Until)),
+            _ => Err(Refusal::NoWord),
         }
     }
-    text
-}
 
-fn word_of<K: Kind>(name: &[u8]) -> Option<u8> {
-    for n in 0..K::total() {
-        if let Some(label) = K::label(n)
-            && label.as_bytes() == name
-        {
-            return Some(FIRST_NAME + n);
+    fn name<K: Kind>(letters: &[u8]) -> Result<Word, Refusal> {
+        if letters.len() > LONGEST_NAME {
+            return Err(Refusal::LongName);
+        }
+        (0..K::NAMES)
+            .find_map(|n| K::label(n).filter(|label| label.as_bytes() == letters))
+            .map(Word::Atom)
+            .ok_or(Refusal::UnknownName)
+    }
+
+    // The word that a run of letters or another byte is; a space is none.
+    fn of<K: Kind>(run: &[u8]) -> Result<Option<Word>, Refusal> {
+        match run {
+            [b' '] => Ok(None),
+            [byte] if !byte.is_ascii_lowercase() => Word::sign(*byte).map(Some),
+            letters => Word::name::<K>(letters).map(Some),
         }
     }
-    None
-}
 
-// The name that a word stands for.
-pub fn name_of<K: Kind>(word: u8) -> Option<&'static str> {
-    K::label(word.checked_sub(FIRST_NAME)?)
-}
-
-fn named<K: Kind>(name: &[u8], place: usize) -> Result<u8, Stop> {
-    if name.len() > LONGEST_NAME {
-        return Err(Stop::at(place, Refusal::LongName));
-    }
-    word_of::<K>(name).ok_or(Stop::at(place, Refusal::UnknownName))
-}
-
-impl Words {
-    fn push(&mut self, word: u8, place: usize) -> Result<(), Stop> {
-        self.bytes.push(word)?;
-        self.places.push(place)?;
-        Ok(())
+    pub fn is_bracket(self) -> bool {
+        matches!(self, Word::Open | Word::Close)
     }
 
-    pub fn of<K: Kind>(heap: Global, text: &[u8]) -> Result<Words, Stop> {
-        let mut words = Words {
-            bytes: Vec::new(heap),
-            places: Vec::new(heap),
-        };
-        let mut in_name = false;
-        for (place, byte) in text.iter().enumerate() {
-            let letter = byte.is_ascii_lowercase();
-            if letter && !in_name {
-                words.push(named::<K>(letters(&text[place..]), place)?, place)?;
-            } else if is_sign(*byte) {
-                words.push(*byte, place)?;
-            } else if !letter && *byte != b' ' {
-                return Err(Stop::at(place, Refusal::NoWord));
-            }
-            in_name = letter;
+    pub fn is_temporal(self) -> bool {
+        matches!(
+            self,
+            Word::Before(Prefix::Next | Prefix::WeakNext | Prefix::Finally | Prefix::Globally)
+                | Word::Between(Joint::Until)
+        )
+    }
+}
+
+// A part of a text with its place in it.
+#[derive(Clone, Copy)]
+pub struct Placed<T> {
+    pub part: T,
+    pub place: usize,
+}
+
+// The runs of letters of a text, and each other byte by itself. The places are summed here, since `chunk_by` hands out the parts alone.
+fn runs(heap: Global, text: &[u8]) -> Result<Vec<Placed<&[u8]>>, AllocError> {
+    let mut runs = Vec::new(heap);
+    let mut place = 0;
+    for part in text.chunk_by(|a, b| a.is_ascii_lowercase() && b.is_ascii_lowercase()) {
+        runs.push(Placed { part, place })?;
+        place += part.len();
+    }
+    Ok(runs)
+}
+
+pub fn words_of<K: Kind>(heap: Global, text: &[u8]) -> Result<Vec<Placed<Word>>, Stop<Fault>> {
+    let mut words = Vec::new(heap);
+    for run in &runs(heap, text)? {
+        let place = run.place;
+        let word = Word::of::<K>(run.part).map_err(|refusal| Fault { refusal, place })?;
+        if let Some(part) = word {
+            words.push(Placed { part, place })?;
         }
-        Ok(words)
     }
+    Ok(words)
 }

@@ -4,12 +4,15 @@
 mod reading;
 mod telling;
 
-use bench::{Slip, write_off};
+use bench::write_off_all;
 use events::{MachineEvent, SheetEvent};
+use numbered::Numbered;
+use observers::Port;
 use reading::{asked_ruler, read_text};
-use script::{read_script, refusal_words};
+use script::{ScriptError, read_script};
 use session::{Numbers, Turn, replay};
-use sheets::{Ruler, hammer_port};
+use sheets::{Hammer, Ruler};
+use std::alloc::AllocError;
 use std::io;
 use telling::tell;
 
@@ -20,13 +23,6 @@ const NUMBERS: Numbers = Numbers {
     second: 4,
 };
 
-fn write_off_all(mut held: Vec<Slip>) {
-    while let Some(slip) = held.pop() {
-        write_off(slip);
-    }
-    held.destroy_empty();
-}
-
 fn perform(
     rt: &HostRuntime,
     ruler: Ruler,
@@ -35,7 +31,7 @@ fn perform(
 ) -> io::Result<()> {
     let heap = rt.alloc();
     let mut held = Vec::new(heap);
-    let hammer = hammer_port(ruler);
+    let hammer = Port::new(Hammer, ruler);
     let replies = Vec::new(heap);
     let done = replay(
         NUMBERS, ruler, hammer, ruler, ruler, &mut held, turns, replies,
@@ -47,21 +43,16 @@ fn perform(
 
 fn run(rt: &HostRuntime, ruler: Ruler) -> io::Result<()> {
     let text = read_text(rt)?;
-    match read_script(rt.alloc(), text.as_slice())? {
+    match read_script(rt.alloc(), text.as_slice()) {
         Ok(turns) => perform(rt, ruler, text.as_slice(), turns),
-        Err(bad) => {
-            let words = refusal_words(rt.alloc(), bad.number, bad.refusal)?;
-            println!(rt; "{words}")
-        }
+        Err(ScriptError::Line(bad)) => println!(rt; "{bad}"),
+        Err(ScriptError::Memory) => Err(io::Error::from(AllocError)),
     }
 }
 
 fn main(rt: HostRuntime) -> io::Result<()> {
     match asked_ruler(&rt) {
         Ok(ruler) => run(&rt, ruler),
-        Err(refusal) => {
-            let number = refusal.number();
-            println!(rt; "refused {number}: the width must be 1 to 100")
-        }
+        Err(refusal) => println!(rt; "refused {}: the width must be 1 to 100", refusal.number()),
     }
 }

@@ -9,16 +9,14 @@ const DEFAULT_WIDTH: u32 = 40;
 
 // A ruler of the width that the first argument is, in one to nine decimal digits.
 pub fn asked_ruler(rt: &HostRuntime) -> Result<Ruler, RulerRefusal> {
+    // The argument is not taken by `env::args`, which fails where any argument is not UTF-8, while here that is no width.
     let mut word = [0u8; 10];
     let width = match rt.arg(1, &mut word) {
-        Ok(n) => read_number(&word[0..n]),
+        Ok(n) => read_number(&word[..n]),
         Err(FillError::NotPresent) => Some(DEFAULT_WIDTH),
         Err(FillError::TooLong) => None,
     };
-    match width {
-        Some(width) => Ruler::new(width),
-        None => Err(RulerRefusal::WidthNot1To100),
-    }
+    Ruler::new(width.ok_or(RulerRefusal::WidthNot1To100)?)
 }
 
 pub fn read_text(rt: &HostRuntime) -> io::Result<Vec<u8>> {

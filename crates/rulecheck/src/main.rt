@@ -3,8 +3,7 @@
 
 use output::Writer;
 use ruletext::check_rules;
-use std::io;
-use std::io::{Read, Write};
+use std::io::{self, Read, Write};
 
 // Output up to this many bytes can't fail for want of memory once it has begun.
 const ROOM: usize = 1 << 16;
@@ -13,7 +12,6 @@ fn main(rt: HostRuntime) -> io::Result<()> {
     let mut input = Vec::new(rt.alloc());
     rt.stdin().read_to_end(&mut input)?;
     let mut told = Writer::over(Vec::with_capacity(rt.alloc(), ROOM)?);
-    check_rules(input.as_slice(), &mut told);
-    let bytes = told.finish()?;
-    rt.stdout().write_all(bytes.as_slice())
+    check_rules(&input, &mut told);
+    rt.stdout().write_all(&told.finish()?)
 }

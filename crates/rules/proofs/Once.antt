@@ -1,6 +1,6 @@
 -- Each text has one outcome.
 use Rattle.std.proofs.Common.{◌≡◌, ℕ, ◌+◌, ◌<◌, ◌≤◌, Bool, List, length, get_or, take, Ok, count_by, Result, sym, refl, ap, ◌∙◌, subst, inl, inr, arith, take-take}
-use Rattle.std.proofs.lemmas.Bool.{cases_lt}
+use Rattle.std.proofs.lemmas.Bool.{cases_order}
 use Rattle.std.proofs.lemmas.List.Sums.{sum_by-take-le, count_by_more_yes}
 use Rattle.formulas.specs.declared.word.Word.{Word}
 use Rattle.formulas.specs.declared.word.Word.TheVariants.{Name}
@@ -14,13 +14,6 @@ use Rattle.rules.specs.declared.refusal.RuleRefusal.TheVariants.{NoRule, TooMany
 use Rattle.rules.specs.Lexing.{Meant, mark, foreign, long, known, unknown, Lexing, lexed, spoilt, Lexes, no_more, a_word, spoilt_here, spoilt_later}
 use Rattle.rules.specs.Limits.{Exceeds}
 use Rattle.rules.specs.Outcomes.{Rejected, no_rule, too_many_nodes, too_many_temporal, Answer, read, refused, Outcome, too_long, no_word, rejected, a_rule}
-
--- Two constructors are never equal.
-abbrev Never : Type 0
-Never = ◌≡◌ {A = ℕ} 0 1
-
-never : Never → ⊥
-never z = omega arith
 
 module _ (count : ℕ) (names : ℕ → List ℕ) (apart : (m n : ℕ) → m < count → n < count → names m ≡ names n → m ≡ n) where
   meant_once : {g : Sign} {s : List ℕ} {a b : Result Word RuleRefusal} → Meant count names g s a → Meant count names g s b → a ≡ b
@@ -44,15 +37,15 @@ module _ (count : ℕ) (names : ℕ → List ℕ) (apart : (m n : ℕ) → m < c
     lexes_once (no_more e) (spoilt_later lt m l) = absurd (omega arith)
     lexes_once (a_word lt m l) (no_more e) = absurd (omega arith)
     lexes_once (a_word lt m l) (a_word lt' m' l') = let p = meant_once m m' in let q = lexes_once l l' in cc
-    lexes_once (a_word lt m l) (spoilt_here lt' m') = let p = meant_once m m' in absurd (never (cc))
-    lexes_once (a_word lt m l) (spoilt_later lt' m' l') = let q = lexes_once l l' in absurd (never (cc))
+    lexes_once (a_word lt m l) (spoilt_here lt' m') = let p = meant_once m m' in cc
+    lexes_once (a_word lt m l) (spoilt_later lt' m' l') = let q = lexes_once l l' in cc
     lexes_once (spoilt_here lt m) (no_more e) = absurd (omega arith)
-    lexes_once (spoilt_here lt m) (a_word lt' m' l') = let p = meant_once m m' in absurd (never (cc))
+    lexes_once (spoilt_here lt m) (a_word lt' m' l') = let p = meant_once m m' in cc
     lexes_once (spoilt_here lt m) (spoilt_here lt' m') = let p = meant_once m m' in cc
-    lexes_once (spoilt_here lt m) (spoilt_later lt' m' l') = let p = meant_once m m' in absurd (never (cc))
+    lexes_once (spoilt_here lt m) (spoilt_later lt' m' l') = let p = meant_once m m' in cc
     lexes_once (spoilt_later lt m l) (no_more e) = absurd (omega arith)
-    lexes_once (spoilt_later lt m l) (a_word lt' m' l') = let q = lexes_once l l' in absurd (never (cc))
-    lexes_once (spoilt_later lt m l) (spoilt_here lt' m') = let p = meant_once m m' in absurd (never (cc))
+    lexes_once (spoilt_later lt m l) (a_word lt' m' l') = let q = lexes_once l l' in cc
+    lexes_once (spoilt_later lt m l) (spoilt_here lt' m') = let p = meant_once m m' in cc
     lexes_once (spoilt_later lt m l) (spoilt_later lt' m' l') = lexes_once l l'
 
 -- The word that is one too many is one, and there is none within the limit.
@@ -69,9 +62,9 @@ module _ (test : Word → Bool) (limit : ℕ) (ws : List Word) where
 
   pub exceeds_once : (i j : ℕ) → Exceeds test limit ws i → Exceeds test limit ws j → i ≡ j
   exceeds_once i j e d =
-      elim (cases_lt i j) [
-        | inl lt ↦ absurd (exceeds_before i j e d lt)
-        | inr le ↦ elim (cases_lt j i) [ inl gt ↦ absurd (exceeds_before j i d e gt) | inr ge ↦ omega arith ]
+      elim (cases_order i j) [
+        | inl same ↦ same
+        | inr apart ↦ elim apart [ inl lt ↦ absurd (exceeds_before i j e d lt) | inr gt ↦ absurd (exceeds_before j i d e gt) ]
       ]
 
 -- The words of a rule and of its formula are as many.
@@ -112,7 +105,7 @@ module _ (count : ℕ) (names : ℕ → List ℕ) (apart : (m n : ℕ) → m < c
   same_words l l' = let q = lexes_once count names apart text l l' in ((cc), (cc))
 
   clash : {X : Type 0} {ws : List Word} {ps : List ℕ} {r : RuleRefusal} {p : ℕ} → Lexes count names text 0 (lexed ws ps) → Lexes count names text 0 (spoilt r p) → X
-  clash l l' = let q = lexes_once count names apart text l l' in absurd (never (cc))
+  clash l l' = let q = lexes_once count names apart text l l' in cc
 
   pub outcome_once : {a b : Answer} → Outcome count names text a → Outcome count names text b → a ≡ b
   outcome_once (too_long h) (too_long k) = refl

@@ -1,4 +1,4 @@
-use Rattle.std.specs.Prelude.{◌≡◌, ℕ, ◌-◌, ◌≤◌, List, take, Ok, Err, Result}
+use Rattle.std.specs.Prelude.{◌≡◌, ℕ, ◌-◌, ◌≤◌, List, length, Ok, Err, Result}
 use Rattle.formulas.specs.declared.word.Word.{Word}
 use Rattle.formulas.specs.declared.node.Node.{Node}
 use Rattle.formulas.specs.Formulas.{Formula, nodes, promises}
@@ -15,10 +15,10 @@ use Rattle.rules.specs.Outcomes.{Rejected, Answer, read, refused, Outcome}
 
 -- The nodes of a record, and the formula that it holds.
 abbrev pub rule_nodes : {K : Type 0} → Rule K → List Node
-rule_nodes r = take r.count r.nodes
+rule_nodes r = r.nodes.items
 
 abbrev pub rule_formula : {K : Type 0} → Rule K → Formula
-rule_formula r = formula_at (rule_nodes r) (r.count - 1)
+rule_formula r = formula_at (rule_nodes r) (length (rule_nodes r) - 1)
 
 -- The answer that a call gave with what the record then holds.
 abbrev pub answer : {K : Type 0} → Rule K → Result Size Fault → Answer
@@ -39,14 +39,13 @@ pub record Reading {K : Type 0} (count : ℕ) (names : ℕ → List ℕ) (text :
 
 -- For inner functions: the tree is one formula within the limits.
 pub record Within (t : Tree) : Type 0 where
-  pub formed : Formed (front t) t.count t.operators
-  pub few_nodes : t.count ≤ 48
+  pub formed : Formed (front t) (length (front t)) t.operators
+  pub few_nodes : length (front t) ≤ 48
   pub few_temporal : t.operators ≤ 12
 
 -- For inner functions: the record holds the tree's formula.
 pub record Holding {K : Type 0} (t : Tree) (r : Rule K) : Type 0 where
   pub same : rule_nodes r ≡ front t
-  pub count : r.count ≡ t.count
   pub promises : r.promises ≡ t.operators
 
 -- For inner functions: what words with their places come to.

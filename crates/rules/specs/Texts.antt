@@ -1,4 +1,5 @@
-use Rattle.std.specs.Prelude.{◌≡◌, ℕ, suc, ◌+◌, ◌<◌, Bool, true, false, cond, ◌&&◌, List, [], ◌∷◌, length, take, drop, Some, None, Option, ◌==◌, nat_le, slice_index}
+use Rattle.std.specs.Prelude.{◌≡◌, ℕ, ◌+◌, ◌<◌, Bool, true, false, cond, ◌&&◌, List, length, take, drop, Some, None, Option, ◌==◌, nat_le, slice_index}
+use Rattle.std.specs.List.{prefix_len}
 use Rattle.formulas.specs.declared.unary.Unary.TheVariants.{Not, Next, WeakNext, Finally, Globally}
 use Rattle.formulas.specs.declared.binary.Binary.TheVariants.{And, Or, Implies, Iff, Until}
 use Rattle.formulas.specs.declared.word.Word.TheVariants.{Constant, Open, Close, Prefix, Infix}
@@ -31,12 +32,10 @@ sign b =
 
 -- How many spaces (32) stand at the front, and how many letters.
 abbrev pub spaces : List ℕ → ℕ
-spaces [] = 0
-spaces (b ∷ bs) = cond (b == 32) (suc (spaces bs)) 0
+spaces = prefix_len (λ b. b == 32)
 
 abbrev pub letters : List ℕ → ℕ
-letters [] = 0
-letters (b ∷ bs) = cond (letter b) (suc (letters bs)) 0
+letters = prefix_len letter
 
 -- How long the word at the front is: the longest run of letters, or one byte.
 abbrev pub size : List ℕ → ℕ

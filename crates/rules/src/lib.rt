@@ -1,12 +1,13 @@
 // A rule text becomes a rule record, or a refusal with its place.
 #![tactic(auto)]
 
-pub mod lexer;
-pub mod limits;
-pub mod reading;
-pub mod refusal;
-pub mod rule;
-pub mod words;
+mod lexer;
+mod limits;
+mod reading;
+mod refusal;
+mod rule;
+mod sentence;
+mod words;
 
 pub use refusal::{Fault, RuleRefusal};
 pub use rule::{Rule, Size};

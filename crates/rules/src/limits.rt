@@ -1,9 +1,10 @@
 ghost use Rattle.std.specs.Prelude.{◌≡◌, ◌≤◌, count_by, MatchOption};
-ghost use Rattle.rules.specs.Limits.{counts, most, Exceeds};
+ghost use Rattle.rules.specs.Limits.{counts, most, limit_refusal, Exceeds};
 
+use crate::refusal::RuleRefusal;
 use formulas::Word;
 
-// What a rule may have only so many of.
+// What a rule may have only so many of. A closure in its place would travel with a number and a refusal, and contracts name a limit as a value.
 #[derive(Clone, Copy)]
 pub(crate) enum Limit {
     Nodes = 48,
@@ -25,20 +26,26 @@ impl Limit {
     {
         self as usize
     }
-}
 
-// The first word that is one too many.
-pub(crate) fn first_over(words: &[Word], limit: Limit) -> Option<usize>
-    ensures { MatchOption result (count_by (counts limit) words.now ≤ most limit) (λ i. Exceeds (counts limit) (most limit) words.now i) }
-{
-    let mut met = 0;
-    for i in 0..words.len() {
-        if limit.counts(words[i]) {
-            if met == limit.most() {
-                return Some(i);
-            }
-            met += 1;
+    // Why a rule with more is refused.
+    pub(crate) fn refusal(self) -> RuleRefusal
+        ensures { result ≡ limit_refusal self }
+    {
+        match self {
+            Limit::Nodes => RuleRefusal::TooManyNodes,
+            Limit::Temporal => RuleRefusal::TooManyTemporal,
         }
     }
-    None
+
+    // The first word that is one too many.
+    pub(crate) fn first_over(self, words: &[Word]) -> Option<usize>
+        ensures { MatchOption result (count_by (counts self) words.now ≤ most self) (λ i. Exceeds (counts self) (most self) words.now i) }
+    {
+        words
+            .iter()
+            .enumerate()
+            .filter(|(_, word)| self.counts(**word))
+            .nth(self.most())
+            .map(|(i, _)| i)
+    }
 }

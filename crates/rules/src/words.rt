@@ -1,5 +1,7 @@
-ghost use Rattle.std.specs.Prelude.{◌≡◌, ◌+◌, ◌<◌, ◌≤◌, length, drop, IfSome, ◌==◌};
-ghost use Rattle.rules.specs.Texts.{sign, letter, spaces, letters, size, Taken};
+ghost use Rattle.std.specs.Prelude.{◌≡◌, ℕ, Bool, ◌-◌, ◌<◌, ◌≤◌, length, ◌==◌};
+ghost use Rattle.std.specs.List.{prefix_len};
+ghost use Rattle.std.specs.Iterator.{at_most};
+ghost use Rattle.rules.specs.Texts.{sign, letter, Taken};
 
 use formulas::{Binary, Unary, Word};
 
@@ -11,82 +13,51 @@ pub(crate) enum Sign {
     Foreign,
 }
 
-fn sign_of(b: u8) -> Sign
-    ensures { result ≡ sign b }
-{
-    match b as char {
-        'a'..='z' => Sign::Letter,
-        '1' => Sign::Mark(Word::Constant(true)),
-        '0' => Sign::Mark(Word::Constant(false)),
-        '(' => Sign::Mark(Word::Open),
-        ')' => Sign::Mark(Word::Close),
-        '!' => Sign::Mark(Word::Prefix(Unary::Not)),
-        'X' => Sign::Mark(Word::Prefix(Unary::Next)),
-        'N' => Sign::Mark(Word::Prefix(Unary::WeakNext)),
-        'F' => Sign::Mark(Word::Prefix(Unary::Finally)),
-        'G' => Sign::Mark(Word::Prefix(Unary::Globally)),
-        '&' => Sign::Mark(Word::Infix(Binary::And)),
-        '|' => Sign::Mark(Word::Infix(Binary::Or)),
-        '>' => Sign::Mark(Word::Infix(Binary::Implies)),
-        '=' => Sign::Mark(Word::Infix(Binary::Iff)),
-        'U' => Sign::Mark(Word::Infix(Binary::Until)),
-        _ => Sign::Foreign,
+// Characters are decided by literals as match cases, by a rule of the project.
+impl From<u8> for Sign {
+    ghost from_gives = { λ b s. s ≡ sign b };
+
+    fn from(value: u8) -> Sign {
+        match value as char {
+            'a'..='z' => Sign::Letter,
+            '1' => Sign::Mark(Word::Constant(true)),
+            '0' => Sign::Mark(Word::Constant(false)),
+            '(' => Sign::Mark(Word::Open),
+            ')' => Sign::Mark(Word::Close),
+            '!' => Sign::Mark(Word::Prefix(Unary::Not)),
+            'X' => Sign::Mark(Word::Prefix(Unary::Next)),
+            'N' => Sign::Mark(Word::Prefix(Unary::WeakNext)),
+            'F' => Sign::Mark(Word::Prefix(Unary::Finally)),
+            'G' => Sign::Mark(Word::Prefix(Unary::Globally)),
+            '&' => Sign::Mark(Word::Infix(Binary::And)),
+            '|' => Sign::Mark(Word::Infix(Binary::Or)),
+            '>' => Sign::Mark(Word::Infix(Binary::Implies)),
+            '=' => Sign::Mark(Word::Infix(Binary::Iff)),
+            'U' => Sign::Mark(Word::Infix(Binary::Until)),
+            _ => Sign::Foreign,
+        }
     }
 }
 
 fn is_space(b: u8) -> bool
     ensures { result ≡ (b == 32) }
 {
-    match b as char {
-        ' ' => true,
-        _ => false,
-    }
+    matches!(b as char, ' ')
 }
 
 fn is_letter(b: u8) -> bool
     ensures { result ≡ letter b }
 {
-    match b as char {
-        'a'..='z' => true,
-        _ => false,
-    }
+    matches!(b as char, 'a'..='z')
 }
 
-fn past_spaces(text: &[u8], from: usize) -> usize
-    requires { from ≤ length text.now }
-    ensures is { result ≡ from + spaces (drop from text.now) }
+// How many bytes at the front pass the test.
+fn run<F: Fn(u8) -> bool>(text: &[u8], test: F) -> usize
+    requires { F.IsAlwaysCallable test }
+    ensures exact { (p : ℕ → Bool) → ((b : ℕ) (r : Bool) → F.post test b r → r ≡ p b) → result ≡ prefix_len p text.now }
     ensures within { result ≤ length text.now }
 {
-    let mut at = from;
-    while at < text.len() && is_space(text[at]) {
-        at += 1;
-    }
-    at
-}
-
-fn past_letters(text: &[u8], from: usize) -> usize
-    requires { from ≤ length text.now }
-    ensures is { result ≡ from + letters (drop from text.now) }
-    ensures within { result ≤ length text.now }
-{
-    let mut at = from;
-    while at < text.len() && is_letter(text[at]) {
-        at += 1;
-    }
-    at
-}
-
-fn word_end(text: &[u8], place: usize) -> usize
-    requires { place < length text.now }
-    ensures is { result ≡ place + size (drop place text.now) }
-    ensures after { place < result }
-    ensures within { result ≤ length text.now }
-{
-    if is_letter(text[place]) {
-        past_letters(text, place)
-    } else {
-        place + 1
-    }
+    text.iter().take_while(|b| test(**b)).count()
 }
 
 // A word as a part of the text, with its place and what it begins with.
@@ -97,11 +68,12 @@ pub(crate) struct Piece<'a> {
     pub(crate) place: usize,
 }
 
-// Hands out the words of a text one by one.
+// Hands out the words of a text one by one. The text stays whole beside the place, since each piece is told with its place in it.
 #[derive(Drop)]
 pub(crate) struct Words<'a> {
-    pub(crate) text: &'a [u8],
-    pub(crate) at: usize,
+    text: &'a [u8],
+    at: usize,
+    ghost inside: { at ≤ length text.now },
 }
 
 impl<'a> Words<'a> {
@@ -111,27 +83,22 @@ impl<'a> Words<'a> {
     {
         Words { text, at: 0 }
     }
+}
 
-    pub(crate) fn next(&mut self) -> Option<Piece<'a>>
-        requires { self.old.at ≤ length self.old.text.now }
-        ensures same { self.new.text.now ≡ self.old.text.now }
-        ensures within { self.new.at ≤ length self.old.text.now }
-        ensures moves { IfSome result (λ p. self.old.at < self.new.at) }
-        ensures taken { Taken self.old.text.now self.old.at result self.new.at }
-    {
+impl<'a> Iterator for Words<'a> {
+    type Item = Piece<'a>;
+
+    ghost next_gives = { λ s r t. (t.text.now ≡ s.text.now) × Taken s.text.now s.at r t.at };
+
+    ghost remaining = { λ s. at_most (length s.text.now - s.at) };
+
+    fn next(&mut self) -> Option<Piece<'a>> {
         let text = self.text;
-        let place = past_spaces(text, self.at);
-        if place >= text.len() {
-            self.at = place;
-            return None;
-        }
-        let sign = sign_of(text[place]);
-        let end = word_end(text, place);
-        self.at = end;
-        Some(Piece {
-            sign,
-            part: &text[place..end],
-            place,
-        })
+        let place = self.at + run(&text[self.at..], is_space);
+        let word = &text[place..];
+        let sign = Sign::from(*word.first()?);
+        let part = &word[..run(word, is_letter).max(1)];
+        self.at = place + part.len();
+        Some(Piece { sign, part, place })
     }
 }

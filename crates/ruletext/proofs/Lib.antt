@@ -1,3 +1,4 @@
 pub mod Holding
+pub mod Showing
 pub mod Telling
 pub mod Checking

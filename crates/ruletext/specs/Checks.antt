@@ -1,4 +1,4 @@
-use Rattle.std.specs.Prelude.{◌≡◌, ℕ, List, [], ◌∷◌, ◌++◌, Err, codes, decimal}
+use Rattle.std.specs.Prelude.{◌≡◌, ℕ, List, [], ◌∷◌, ◌++◌, Err}
 use Rattle.events.specs.Sheets.{sheet_text, sheet_name_at}
 use Rattle.events.specs.Machines.{machine_text, machine_name_at}
 use Rattle.lines.specs.Lines.{Cut, Lined}
@@ -9,7 +9,7 @@ use Rattle.notation.specs.Letters.{letter, kind_refusal_number, LetterRead}
 use Rattle.output.specs.declared.writer.Writer.{Writer}
 use Rattle.output.specs.Writing.{Wrote}
 use Rattle.rules.specs.Outcomes.{Answer, Outcome}
-use Rattle.ruletext.specs.Reports.{told, line_feed}
+use Rattle.ruletext.specs.Reports.{told, fault_words, line_feed}
 
 -- What is told of lines, each a rule text of one kind, one after another.
 pub data Tells (count : ℕ) (names : ℕ → List ℕ) : List (List ℕ) → List ℕ → Type 0 where
@@ -29,7 +29,7 @@ ToldOf Machine text bs = Told 5 (λ n. machine_text (machine_name_at n)) text bs
 
 -- A first line that names no kind: `fault 60 at 1`.
 abbrev pub first_line_fault : KindRefusal → List ℕ
-first_line_fault e = codes "fault " ++ (decimal (kind_refusal_number e) ++ (codes " at 1" ++ line_feed))
+first_line_fault e = fault_words (kind_refusal_number e) 1 ++ line_feed
 
 -- What is told of an input: its first line is the letter of a kind, and every further line is a rule; or its first line is at fault.
 pub data Checked (input : List ℕ) : List ℕ → Type 0 where

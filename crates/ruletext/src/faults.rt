@@ -1,9 +1,11 @@
+// All is put piece by piece, for a formatter can't promise that what there is room for does not fail.
 ghost use Rattle.std.specs.Prelude.{◌≡◌, map, replicate};
 ghost use Rattle.output.specs.Writing.{Wrote};
 ghost use Rattle.ruletext.specs.Reports.{printing, size_words, fault_words};
 
+use numbered::Numbered;
 use output::Writer;
-use rules::{Fault, Size};
+use rules::Size;
 
 pub(crate) fn show_size(size: Size, out: &mut Writer)
     ensures { Wrote out.old (size_words size.nodes size.promises) out.new }
@@ -14,15 +16,16 @@ pub(crate) fn show_size(size: Size, out: &mut Writer)
     out.put_number(size.promises);
 }
 
-pub(crate) fn show_fault(fault: Fault, out: &mut Writer)
-    ensures { Wrote out.old (fault_words fault.refusal fault.place) out.new }
+pub(crate) fn show_fault<R: Numbered>(refusal: R, place: usize, out: &mut Writer)
+    ensures { Wrote out.old (fault_words (R.number refusal) place) out.new }
 {
     out.put(b"fault ");
-    out.put_number(usize::from(fault.refusal.number()));
+    out.put_number(usize::from(refusal.number()));
     out.put(b" at ");
-    out.put_number(fault.place);
+    out.put_number(place);
 }
 
+// By literals as match cases, as characters are decided everywhere here.
 fn printed(b: u8) -> u8
     ensures { result ≡ printing b }
 {
@@ -43,7 +46,7 @@ pub(crate) fn show_text(text: &[u8], out: &mut Writer)
 pub(crate) fn show_spaces(count: usize, out: &mut Writer)
     ensures { Wrote out.old (replicate count 32) out.new }
 {
-    for _column in 0..count {
-        out.put(b" ");
+    for _ in 0..count {
+        out.put_byte(b' ');
     }
 }

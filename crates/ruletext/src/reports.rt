@@ -8,7 +8,7 @@ use rules::Rule;
 
 // Reads the text as a rule and tells how it is taken.
 pub fn report<K: Kind>(text: &[u8], out: &mut Writer)
-    ensures { Reported K.Kind.count K.Kind.text text.now out.old out.new }
+    ensures { Reported K.Kind.NAMES K.Kind.text text.now out.old out.new }
 {
     let mut rule: Rule<K> = Rule::new();
     match rule.read(text) {
@@ -19,7 +19,7 @@ pub fn report<K: Kind>(text: &[u8], out: &mut Writer)
             out.put(b"\n");
         }
         Err(fault) => {
-            show_fault(fault, out);
+            show_fault(fault.refusal, fault.place, out);
             out.put(b"\n");
             show_text(text, out);
             out.put(b"\n");

@@ -1,3 +1,4 @@
+// All is put piece by piece, as in `faults`.
 ghost use Rattle.std.specs.Prelude.{◌<◌, length};
 ghost use Rattle.formulas.specs.Trees.{Standing, formula_at};
 ghost use Rattle.output.specs.Writing.{Wrote};
@@ -5,34 +6,28 @@ ghost use Rattle.rules.specs.Reading.{rule_formula};
 ghost use Rattle.ruletext.specs.Shown.{spelling, shown, digit};
 
 use events::Kind;
-use formulas::Node;
+use formulas::{Node, Operator};
 use output::Writer;
 use rules::Rule;
 
 fn show_name<K: Kind>(n: u8, out: &mut Writer)
-    ensures { Wrote out.old (spelling K.Kind.count K.Kind.text n) out.new }
+    ensures { Wrote out.old (spelling K.Kind.NAMES K.Kind.text n) out.new }
 {
-    match K::label(n) {
-        Some(label) => out.put(label.as_bytes()),
-        None => out.put(b"?"),
-    }
+    out.put(K::label(n).unwrap_or("?").as_bytes());
 }
 
 fn show_constant(truth: bool, out: &mut Writer)
     ensures { Wrote out.old (digit truth) out.new }
 {
-    if truth {
-        out.put(b"1");
-    } else {
-        out.put(b"0");
-    }
+    out.put(if truth { b"1" } else { b"0" });
 }
 
 // The formula whose root is the node `at`, every operator in brackets with its operands.
+#[tactic(auto, using(crate::proofs::Showing::showing))]
 fn show<K: Kind>(nodes: &[Node], at: usize, out: &mut Writer)
     requires inside { at < length nodes.now }
     requires stands { Standing nodes.now at }
-    ensures { Wrote out.old (shown K.Kind.count K.Kind.text (formula_at nodes.now at)) out.new }
+    ensures { Wrote out.old (shown K.Kind.NAMES K.Kind.text (formula_at nodes.now at)) out.new }
 {
     let node = nodes[at];
     match node {
@@ -63,8 +58,9 @@ fn show<K: Kind>(nodes: &[Node], at: usize, out: &mut Writer)
 }
 
 // The rule that a record holds, fully bracketed.
+#[tactic(auto, using(crate::proofs::Holding::some_nodes, crate::proofs::Holding::root_stands))]
 pub fn show_rule<K: Kind>(rule: &Rule<K>, out: &mut Writer)
-    ensures { Wrote out.old (shown K.Kind.count K.Kind.text (rule_formula rule.now)) out.new }
+    ensures { Wrote out.old (shown K.Kind.NAMES K.Kind.text (rule_formula rule.now)) out.new }
 {
     let nodes = rule.nodes();
     show::<K>(nodes, nodes.len() - 1, out);

@@ -1,7 +1,4 @@
-mod Numbering
-mod Cutting
-mod Wording
-mod Acting
 mod Seating
 mod OneAct
 mod OneTurn
+mod Walking

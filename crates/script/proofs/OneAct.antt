@@ -1,90 +1,102 @@
 -- The text of an act has one reading.
-use Rattle.std.proofs.Common.{◌≡◌, ℕ, List, drop, Ok, Err, Result, sym, refl, ap, ◌∙◌, subst, arith}
+use Rattle.std.proofs.Common.{◌≡◌, ℕ, cond, eqb, List, ◌++◌, get_or, drop, Ok, Err, codes, Result, sym, refl, ap, ◌∙◌, subst}
 use Rattle.events.specs.declared.refusal.EventRefusal.{EventRefusal}
 use Rattle.events.specs.declared.refusal.EventRefusal.TheVariants as event
 use Rattle.notation.specs.Refusals.{carried}
 use Rattle.notation.specs.declared.refusal.LineRefusal.{LineRefusal}
-use Rattle.notation.specs.declared.refusal.LineRefusal.TheVariants.{CellOver63, KindUnknown, BitNotZero, NotAnEvent}
 use Rattle.session.specs.declared.turn.Act.{Act}
 use Rattle.session.specs.declared.turn.Act.TheVariants.{Open, Take, Ask, Close}
-use Rattle.script.specs.Numerals.{NumberWritten}
-use Rattle.script.specs.Acts.{ActWritten, TakeRefused, ActRead, Exactly}
+use Rattle.lines.specs.Numerals.{NumberWritten}
+use Rattle.script.specs.Acts.{ActWritten, TakeRefused, ActRead}
+use Rattle.script.specs.Refusals.{take_refusal}
 use Rattle.script.specs.declared.refusal.TurnRefusal.{TurnRefusal}
 use Rattle.script.specs.declared.refusal.TurnRefusal.TheVariants.{NotATurn, Event}
-use Rattle.script.proofs.Acting.{first_byte}
 
--- two texts of one line, each after a front
-both : (text xs ys : List ℕ) → text ≡ xs → text ≡ ys → xs ≡ ys
-both text xs ys p q = sym p ∙ q
+data Kind : Type 0 where
+  opening : Kind
+  taking : Kind
+  asking : Kind
+  closing : Kind
+  none : Kind
 
-abbrev uncarried : LineRefusal → EventRefusal
-uncarried CellOver63 = event.CellOver63
-uncarried KindUnknown = event.KindUnknown
-uncarried BitNotZero = event.BitNotZero
-uncarried NotAnEvent = event.BitNotZero
+-- The kind of an act, by the first letter of its text.
+abbrev kind_of : List ℕ → Kind
+kind_of text = cond (eqb (get_or text 0 0) 111) opening (cond (eqb (get_or text 0 0) 116) taking (cond (eqb (get_or text 0 0) 97) asking (cond (eqb (get_or text 0 0) 99) closing none)))
 
-uncarried_carried : (x : EventRefusal) → uncarried (carried x) ≡ x
-uncarried_carried event.CellOver63 = refl
-uncarried_carried event.KindUnknown = refl
-uncarried_carried event.BitNotZero = refl
+told_carried : (x : EventRefusal) → take_refusal (carried x) ≡ Event x
+told_carried event.CellOver63 = refl
+told_carried event.KindUnknown = refl
+told_carried event.BitNotZero = refl
 
 module _ {E : Type 0} (written : E → List ℕ) (means : List ℕ → Result E LineRefusal → Type 0) (back : (x : E) → means (written x) (Ok x)) (once : (l : List ℕ) (r s : Result E LineRefusal) → means l r → means l s → r ≡ s) where
-  same_event : (e f : E) → written e ≡ written f → e ≡ f
-  same_event e f p =
-      let q = once (written f) (Ok e) (Ok f) (subst (λ (l : List ℕ). means l (Ok e)) p (back e)) (back f) in
-      cc
+  -- an event that is read, as an act
+  abbrev taken : Result E LineRefusal → Result (Act E) TurnRefusal
+  taken (Ok e) = Ok (Take e)
+  taken (Err y) = Err (take_refusal y)
 
-  read_refused : (l : List ℕ) (e : E) (y : LineRefusal) → l ≡ written e → means l (Err y) → ⊥
-  read_refused l e y p h =
-      let q = once l (Ok e) (Err y) (subst (λ (k : List ℕ). means k (Ok e)) (sym p) (back e)) h in
-      let z : ◌≡◌ {A = ℕ} 0 1 = cc in
-      omega arith
+  abbrev ReadAs : Kind → List ℕ → Result (Act E) TurnRefusal → Type 0
+  ReadAs opening text r = (text ≡ codes "open") × (r ≡ Ok Open)
+  ReadAs taking text r = (rest : List ℕ) × (q : Result E LineRefusal) × (text ≡ codes "take " ++ rest) × means rest q × (r ≡ taken q)
+  ReadAs asking text r = (text ≡ codes "ask") × (r ≡ Ok Ask)
+  ReadAs closing text r = (rest : List ℕ) × (n : ℕ) × (text ≡ codes "close " ++ rest) × NumberWritten rest n × (r ≡ Ok (Close n))
+  ReadAs none text r = ⊥
 
-  written_once : (text : List ℕ) (a b : Act E) → ActWritten written text a → ActWritten written text b → a ≡ b
-  written_once text Open Open p q = refl
-  written_once text Open (Take f) p q = absurd (omega (arith, first_byte _ _ (both text _ _ p q)))
-  written_once text Open Ask p q = absurd (omega (arith, first_byte _ _ (both text _ _ p q)))
-  written_once text Open (Close n) p q = absurd (omega (arith, first_byte _ _ (both text _ _ p q.1)))
-  written_once text (Take e) Open p q = absurd (omega (arith, first_byte _ _ (both text _ _ p q)))
-  written_once text (Take e) (Take f) p q = ap Take (same_event e f (ap (λ (l : List ℕ). drop 5 l) (both text _ _ p q)))
-  written_once text (Take e) Ask p q = absurd (omega (arith, first_byte _ _ (both text _ _ p q)))
-  written_once text (Take e) (Close n) p q = absurd (omega (arith, first_byte _ _ (both text _ _ p q.1)))
-  written_once text Ask Open p q = absurd (omega (arith, first_byte _ _ (both text _ _ p q)))
-  written_once text Ask (Take f) p q = absurd (omega (arith, first_byte _ _ (both text _ _ p q)))
-  written_once text Ask Ask p q = refl
-  written_once text Ask (Close n) p q = absurd (omega (arith, first_byte _ _ (both text _ _ p q.1)))
-  written_once text (Close m) Open p q = absurd (omega (arith, first_byte _ _ (both text _ _ p.1 q)))
-  written_once text (Close m) (Take f) p q = absurd (omega (arith, first_byte _ _ (both text _ _ p.1 q)))
-  written_once text (Close m) Ask p q = absurd (omega (arith, first_byte _ _ (both text _ _ p.1 q)))
-  written_once text (Close m) (Close n) p q =
-      let e : p.0 ≡ q.0 = ap (λ (l : List ℕ). drop 6 l) (both text _ _ p.1 q.1) in
-      let h : NumberWritten q.0 m = subst (λ (l : List ℕ). NumberWritten l m) e p.2 in
-      ap Close (h.2 ∙ sym q.2.2)
+  record Placed (text : List ℕ) (r : Result (Act E) TurnRefusal) : Type 0 where
+    kind : Kind
+    here : ReadAs kind text r
 
-  not_both : (text : List ℕ) (a : Act E) (x : EventRefusal) → ActWritten written text a → TakeRefused means text x → ⊥
-  not_both text Open x p q = omega (arith, first_byte _ _ (both text _ _ p q.1))
-  not_both text (Take e) x p q = read_refused q.0 e (carried x) (ap (λ (l : List ℕ). drop 5 l) (both text _ _ q.1 p)) q.2
-  not_both text Ask x p q = omega (arith, first_byte _ _ (both text _ _ p q.1))
-  not_both text (Close n) x p q = omega (arith, first_byte _ _ (both text _ _ p.1 q.1))
+  kind_is : (k : Kind) (text : List ℕ) (r : Result (Act E) TurnRefusal) → ReadAs k text r → kind_of text ≡ k
+  kind_is opening text r p = ap kind_of p.0
+  kind_is taking text r p = ap kind_of p.2
+  kind_is asking text r p = ap kind_of p.0
+  kind_is closing text r p = ap kind_of p.2
+  kind_is none text r p = absurd p
 
-  refused_once : (text : List ℕ) (x y : EventRefusal) → TakeRefused means text x → TakeRefused means text y → x ≡ y
-  refused_once text x y p q =
-      let e : p.0 ≡ q.0 = ap (λ (l : List ℕ). drop 5 l) (both text _ _ p.1 q.1) in
-      let h : means q.0 (Err (carried x)) = subst (λ (l : List ℕ). means l (Err (carried x))) e p.2 in
-      let r = once q.0 (Err (carried x)) (Err (carried y)) h q.2 in
-      let c : carried x ≡ carried y = cc in
-      sym (uncarried_carried x) ∙ (ap uncarried c ∙ uncarried_carried y)
+  as_once : (k : Kind) (text : List ℕ) (r s : Result (Act E) TurnRefusal) → ReadAs k text r → ReadAs k text s → r ≡ s
+  as_once opening text r s p q = p.1 ∙ sym q.1
+  as_once taking text r s p q =
+      let e : p.0 ≡ q.0 = ap (λ (l : List ℕ). drop 5 l) (sym p.2 ∙ q.2) in
+      let same : p.1 ≡ q.1 = once q.0 p.1 q.1 (subst (λ (l : List ℕ). means l p.1) e p.3) q.3 in
+      p.4 ∙ ap taken same ∙ sym q.4
+  as_once asking text r s p q = p.1 ∙ sym q.1
+  as_once closing text r s p q =
+      let e : p.0 ≡ q.0 = ap (λ (l : List ℕ). drop 6 l) (sym p.2 ∙ q.2) in
+      let h : NumberWritten q.0 p.1 = subst (λ (l : List ℕ). NumberWritten l p.1) e p.3 in
+      let same : p.1 ≡ q.1 = h.2 ∙ sym q.3.2 in
+      p.4 ∙ ap (λ (n : ℕ). Ok (Close n)) same ∙ sym q.4
+  as_once none text r s p q = absurd p
 
-  act_once : (text : List ℕ) (r s : Result (Act E) TurnRefusal) → ActRead written means text r → ActRead written means text s → r ≡ s
-  act_once text (Ok a) (Ok b) p q = ap Ok (written_once text a b p q)
+  placed : (text : List ℕ) (a : Act E) → ActWritten written text a → Placed text (Ok a)
+  placed text Open p = record { kind = opening; here = (p, refl) }
+  placed text (Take e) p = record { kind = taking; here = (written e, Ok e, p, back e, refl) }
+  placed text Ask p = record { kind = asking; here = (p, refl) }
+  placed text (Close n) p = record { kind = closing; here = (p.0, n, p.1, p.2, refl) }
+
+  placed_refused : (text : List ℕ) (x : EventRefusal) → TakeRefused means text x → Placed text (Err (Event x))
+  placed_refused text x p = record { kind = taking; here = (p.0, Err (carried x), p.1, p.2, ap (λ (y : TurnRefusal). Err y) (sym (told_carried x))) }
+
+  placed_once : (text : List ℕ) (r s : Result (Act E) TurnRefusal) → Placed text r → Placed text s → r ≡ s
+  placed_once text r s p q =
+      let e : p.kind ≡ q.kind = sym (kind_is p.kind text r p.here) ∙ kind_is q.kind text s q.here in
+      as_once q.kind text r s (subst (λ (k : Kind). ReadAs k text r) e p.here) q.here
+
+  pub act_once : (text : List ℕ) (r s : Result (Act E) TurnRefusal) → ActRead written means text r → ActRead written means text s → r ≡ s
+  act_once text (Ok a) (Ok b) p q = placed_once text (Ok a) (Ok b) (placed text a p) (placed text b q)
   act_once text (Ok a) (Err NotATurn) p q = absurd (q.0 a p)
-  act_once text (Ok a) (Err (Event y)) p q = absurd (not_both text a y p q)
+  act_once text (Ok a) (Err (Event y)) p q = placed_once text (Ok a) (Err (Event y)) (placed text a p) (placed_refused text y q)
   act_once text (Err NotATurn) (Ok b) p q = absurd (p.0 b q)
   act_once text (Err NotATurn) (Err NotATurn) p q = refl
   act_once text (Err NotATurn) (Err (Event y)) p q = absurd (p.1 y q)
-  act_once text (Err (Event x)) (Ok b) p q = absurd (not_both text b x q p)
+  act_once text (Err (Event x)) (Ok b) p q = placed_once text (Err (Event x)) (Ok b) (placed_refused text x p) (placed text b q)
   act_once text (Err (Event x)) (Err NotATurn) p q = absurd (q.1 x p)
-  act_once text (Err (Event x)) (Err (Event y)) p q = ap (λ (z : EventRefusal). Err (Event z)) (refused_once text x y p q)
+  act_once text (Err (Event x)) (Err (Event y)) p q = placed_once text (Err (Event x)) (Err (Event y)) (placed_refused text x p) (placed_refused text y q)
 
-  pub exact : (text : List ℕ) (r : Result (Act E) TurnRefusal) → ActRead written means text r → Exactly (ActRead written means text) r
-  exact text r h = record { holds = h; only = λ s k. act_once text s r k h }
+  not_look : (text : List ℕ) (r : Result (Act E) TurnRefusal) → text ≡ codes "look" → Placed text r → ⊥
+  not_look text r e p =
+      let k : p.kind ≡ none = sym (kind_is p.kind text r p.here) ∙ ap kind_of e in
+      subst (λ (k : Kind). ReadAs k text r) k p.here
+
+  pub no_look : (text : List ℕ) (r : Result (Act E) TurnRefusal) → ActRead written means text r → text ≡ codes "look" → r ≡ Err NotATurn
+  no_look text (Ok a) p e = absurd (not_look text (Ok a) e (placed text a p))
+  no_look text (Err NotATurn) p e = refl
+  no_look text (Err (Event x)) p e = absurd (not_look text (Err (Event x)) e (placed_refused text x p))

@@ -1,21 +1,32 @@
 -- What the line of a turn can be.
-use Rattle.std.proofs.Common.{◌≡◌, ℕ, Bool, false, List, ◌++◌, drop, Err, codes, Decides, sym, refl, ap, ◌∙◌, subst, arith}
-use borrow.Author.Tests.{clash}
+use Rattle.std.proofs.Common.{◌≡◌, ℕ, List, ◌++◌, cond, eqb, get_or, None, Err, codes, Option, Bor, sym, refl, ap, ◌∙◌, subst}
+use Rattle.std.proofs.lemmas.List.{append_cancel_left}
 use Rattle.events.specs.declared.refusal.EventRefusal.{EventRefusal}
 use Rattle.notation.specs.Sheets.{sheet_line, SheetRead}
 use Rattle.notation.specs.Machines.{MachineRead}
 use Rattle.session.specs.declared.turn.Turn.TheVariants as turn
 use Rattle.script.specs.Acts.{ActRead}
-use Rattle.script.specs.Seats.{called}
+use Rattle.script.specs.Seats.{called, SeatTold}
 use Rattle.script.specs.Turns.{machine_line, Written, Refused, ruler, hammer, first, second, TurnRead}
 use Rattle.script.specs.declared.refusal.TurnRefusal.{TurnRefusal}
 use Rattle.script.specs.declared.refusal.TurnRefusal.TheVariants.{NotATurn, Event}
 use Rattle.script.specs.declared.seat.Seat.{Seat}
 use Rattle.script.specs.declared.seat.Seat.TheVariants.{Ruler, Hammer, First, Second}
-use Rattle.script.proofs.Acting.{first_byte}
 
-pub not_same : {P : Type 0} (b : Bool) → Decides b P → b ≡ false → P → ⊥
-not_same b d e p = clash (sym e ∙ d.1 p)
+-- The bench that a line names, by its first letter.
+abbrev seat_of : List ℕ → Seat
+seat_of line = cond (eqb (get_or line 0 0) 114) Ruler (cond (eqb (get_or line 0 0) 104) Hammer (cond (eqb (get_or line 0 0) 102) First Second))
+
+seat_of_called : (s : Seat) (a : List ℕ) → seat_of (called s ++ a) ≡ s
+seat_of_called Ruler a = refl
+seat_of_called Hammer a = refl
+seat_of_called First a = refl
+seat_of_called Second a = refl
+
+pub seat_same : (s t : Seat) (a b : List ℕ) → called s ++ a ≡ called t ++ b → (s ≡ t) × (a ≡ b)
+seat_same s t a b p =
+    let e : s ≡ t = sym (seat_of_called s a) ∙ ap seat_of p ∙ seat_of_called t b in
+    (e, append_cancel_left (called t) a b (subst (λ (u : Seat). called u ++ a ≡ called t ++ b) e p))
 
 abbrev pub RefusedAt : Seat → List ℕ → TurnRefusal → Type 0
 RefusedAt Ruler act y = ActRead sheet_line SheetRead act (Err y)
@@ -23,25 +34,7 @@ RefusedAt Hammer act y = ActRead machine_line MachineRead act (Err y)
 RefusedAt First act y = ActRead sheet_line SheetRead act (Err y)
 RefusedAt Second act y = ActRead sheet_line SheetRead act (Err y)
 
-pub seat_same : (s t : Seat) (a b : List ℕ) → called s ++ a ≡ called t ++ b → (s ≡ t) × (a ≡ b)
-seat_same Ruler Ruler a b p = (refl, ap (λ (l : List ℕ). drop 6 l) p)
-seat_same Ruler Hammer a b p = absurd (omega (arith, first_byte _ _ p))
-seat_same Ruler First a b p = absurd (omega (arith, first_byte _ _ p))
-seat_same Ruler Second a b p = absurd (omega (arith, first_byte _ _ p))
-seat_same Hammer Ruler a b p = absurd (omega (arith, first_byte _ _ p))
-seat_same Hammer Hammer a b p = (refl, ap (λ (l : List ℕ). drop 7 l) p)
-seat_same Hammer First a b p = absurd (omega (arith, first_byte _ _ p))
-seat_same Hammer Second a b p = absurd (omega (arith, first_byte _ _ p))
-seat_same First Ruler a b p = absurd (omega (arith, first_byte _ _ p))
-seat_same First Hammer a b p = absurd (omega (arith, first_byte _ _ p))
-seat_same First First a b p = (refl, ap (λ (l : List ℕ). drop 6 l) p)
-seat_same First Second a b p = absurd (omega (arith, first_byte _ _ p))
-seat_same Second Ruler a b p = absurd (omega (arith, first_byte _ _ p))
-seat_same Second Hammer a b p = absurd (omega (arith, first_byte _ _ p))
-seat_same Second First a b p = absurd (omega (arith, first_byte _ _ p))
-seat_same Second Second a b p = (refl, ap (λ (l : List ℕ). drop 7 l) p)
-
-pub no_turn : (line : List ℕ) → (line ≡ codes "ruler look" → ⊥) → ((s : Seat) (act : List ℕ) → line ≡ called s ++ act → RefusedAt s act NotATurn) → TurnRead line (Err NotATurn)
+no_turn : (line : List ℕ) → (line ≡ codes "ruler look" → ⊥) → ((s : Seat) (act : List ℕ) → line ≡ called s ++ act → RefusedAt s act NotATurn) → TurnRead line (Err NotATurn)
 no_turn line look none = (
   λ t. elim t as (λ u. Written line u → ⊥) [
     | turn.Watch a ↦ λ p. (none Ruler p.0 p.1).0 a p.2
@@ -57,6 +50,11 @@ no_turn line look none = (
     | second p ↦ (none Second p.0 p.1).1 x p.2
   ],
 )
+
+pub no_seat : (line : List ℕ) (o : Option (Seat × Bor (List ℕ))) → o ≡ None → SeatTold line o → TurnRead line (Err NotATurn)
+no_seat line o e h =
+    let none : (s : Seat) (act : List ℕ) → line ≡ called s ++ act → ⊥ = rw e at h in
+    no_turn line (none Ruler (codes "look")) (λ s act p. absurd (none s act p))
 
 only_there : (s : Seat) (act : List ℕ) → RefusedAt s act NotATurn → (t : Seat) (b : List ℕ) → called s ++ act ≡ called t ++ b → RefusedAt t b NotATurn
 only_there s act h t b p =

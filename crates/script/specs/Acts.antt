@@ -5,7 +5,7 @@ use Rattle.notation.specs.Refusals.{carried}
 use Rattle.notation.specs.declared.refusal.LineRefusal.{LineRefusal}
 use Rattle.session.specs.declared.turn.Act.{Act}
 use Rattle.session.specs.declared.turn.Act.TheVariants.{Open, Take, Ask, Close}
-use Rattle.script.specs.Numerals.{NumberWritten}
+use Rattle.lines.specs.Numerals.{NumberWritten}
 use Rattle.script.specs.declared.refusal.TurnRefusal.{TurnRefusal}
 use Rattle.script.specs.declared.refusal.TurnRefusal.TheVariants.{NotATurn, Event}
 

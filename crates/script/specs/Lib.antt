@@ -1,5 +1,3 @@
-pub mod Lines
-pub mod Numerals
 pub mod Refusals
 pub mod Acts
 pub mod Seats

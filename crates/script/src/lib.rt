@@ -2,17 +2,14 @@
 #![tactic(auto)]
 
 mod act;
-pub mod line;
-pub mod number;
 pub mod reading;
 pub mod refusal;
 mod seat;
 pub mod turn;
 pub mod words;
 
-pub use line::cut_line;
-pub use number::read_number;
-pub use reading::{BadLine, read_script};
+pub use lines::{cut_line, read_number};
+pub use reading::{BadLine, ScriptError, read_script};
 pub use refusal::TurnRefusal;
 pub use turn::read_turn;
 pub use words::{refusal_words, reply_words};

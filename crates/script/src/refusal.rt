@@ -5,7 +5,7 @@ use events::EventRefusal;
 use notation::LineRefusal;
 
 // Why no turn is read from a line: it is none, or it is a take of an event that is refused.
-#[derive(Clone, Copy)]
+#[derive(Clone, Copy, PartialEq, Eq, Debug)]
 pub enum TurnRefusal {
     NotATurn,
     Event(EventRefusal),

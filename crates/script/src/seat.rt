@@ -1,4 +1,5 @@
-ghost use Rattle.script.specs.Seats.{SeatTold};
+ghost use Rattle.std.specs.Prelude.{◌≡◌};
+ghost use Rattle.script.specs.Seats.{called, SeatTold};
 
 // The four benches.
 #[derive(Clone, Copy)]
@@ -9,21 +10,30 @@ pub(crate) enum Seat {
     Second,
 }
 
+const SEATS: [Seat; 4] = [Seat::Ruler, Seat::Hammer, Seat::First, Seat::Second];
+
+impl Seat {
+    // Its name and a space.
+    fn called(self) -> &'static [u8]
+        ensures { result.now ≡ called self }
+    {
+        match self {
+            Seat::Ruler => b"ruler ",
+            Seat::Hammer => b"hammer ",
+            Seat::First => b"first ",
+            Seat::Second => b"second ",
+        }
+    }
+}
+
 // The bench that a line names, and what stands after its name and a space.
 pub(crate) fn read_seat(line: &[u8]) -> Option<(Seat, &[u8])>
     ensures { SeatTold line.now result }
 {
-    if let Some(act) = line.strip_prefix(b"ruler ") {
-        return Some((Seat::Ruler, act));
-    }
-    if let Some(act) = line.strip_prefix(b"hammer ") {
-        return Some((Seat::Hammer, act));
-    }
-    if let Some(act) = line.strip_prefix(b"first ") {
-        return Some((Seat::First, act));
-    }
-    if let Some(act) = line.strip_prefix(b"second ") {
-        return Some((Seat::Second, act));
+    for seat in SEATS {
+        if let Some(act) = line.strip_prefix(seat.called()) {
+            return Some((seat, act));
+        }
     }
     None
 }

@@ -1,5 +1,5 @@
 -- The law of the bench over a session, from the law of each call.
-use Rattle.std.proofs.Common.{◌≡◌, ℕ, ◌+◌, Bool, List, [], ◌∷◌, ◌++◌, Some, None, Option, sym, refl, ap, ◌∙◌, subst, arith}
+use Rattle.std.proofs.Common.{◌≡◌, ℕ, ◌+◌, Bool, List, [], ◌∷◌, ◌++◌, Some, None, Option, sym, refl, ap, ◌∙◌, subst}
 use Rattle.events.specs.declared.sheet.SheetEvent.{SheetEvent}
 use Rattle.observers.specs.declared.port.Port.{Port}
 use Rattle.sheets.specs.declared.ports.Flow.{Flow}
@@ -34,15 +34,15 @@ module _ {E : Type 0} (n : ℕ) (rule : List E → Bool) where
   -- a mark that is told is that of the log's run
   module _ (l : Log E) (r : Reply) (a : Bool) (is : mark_of r ≡ Some a) where
     no_mark : (q : Reply) → mark_of q ≡ None → r ≡ q → ⊥
-    no_mark q e f = let g : Some a ≡ None = sym is ∙ ap mark_of f ∙ e in let z : ◌≡◌ {A = ℕ} 0 1 = cc in omega arith
+    no_mark q e f = cc (ap mark_of f)
 
     told : (c : Call E) (o : Option Refusal) → refusal n l c ≡ o → Answered n rule l c r → a ≡ rule l.run
     told c (Some x) e p = absurd (no_mark (Refused x) refl ((p.settled.refused x).1 e))
     told Open None e p = absurd (no_mark (Opened n (l.opened + 1)) refl ((p.settled.given n (l.opened + 1)).1 (refl, e, refl, refl)))
     told (Take x) None e p = absurd (no_mark Taken refl (p.settled.taken.1 ((x, refl), e)))
-    told Ask None e p = let g : Some a ≡ Some (rule l.run) = sym is ∙ ap mark_of (p.marked e) in cc
+    told Ask None e p = cc (ap mark_of (p.marked e))
     told Look None e p = let t = p.sighted e in absurd (no_mark (Looked t.0) refl t.1)
-    told (Close s) None e p = let g : Some a ≡ Some (rule l.run) = sym is ∙ ap mark_of (p.marked e) in cc
+    told (Close s) None e p = cc (ap mark_of (p.marked e))
 
     pub mark_told : (c : Call E) → Answered n rule l c r → a ≡ rule l.run
     mark_told c p = told c (refusal n l c) refl p

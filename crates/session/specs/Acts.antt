@@ -1,6 +1,6 @@
 -- An act at a bench, with the slips held.
-use Rattle.std.specs.Prelude.{◌≡◌, ℕ, Bool, List, [], ◌∷◌, ◌++◌, Some, None, Ok, Err, Option, Result}
-use Rattle.std.specs.List.{slice_get, remove, insert}
+use Rattle.std.specs.Prelude.{◌≡◌, ℕ, Bool, List, [], ◌∷◌, ◌++◌, Some, None, Option}
+use Rattle.std.specs.List.{slice_get, remove}
 use Rattle.bench.specs.declared.slip.Slip.{Slip}
 use Rattle.answers.specs.declared.Refusal.{Refusal}
 use Rattle.answers.specs.declared.Report.{Report}
@@ -36,13 +36,3 @@ pub record ActLaw {E B : Type 0} (S : ℕ → (List E → Bool) → B → Log E 
   pub calls : List (Exchange E)
   pub done : Done held a r calls held'
   pub lawful : (n : ℕ) (rule : List E → Bool) (l : Log E) → S n rule b l → AllAnswered n rule l calls × S n rule b' (log_from n l calls)
-
--- the slip that an opening gives, if any
-abbrev pub given : Result Slip Refusal → List Slip
-given (Ok s) = s ∷ []
-given (Err x) = []
-
--- the slips, with one that a closing hands back at place k
-abbrev pub restored : List Slip → ℕ → Result Report (Slip × Refusal) → List Slip
-restored held k (Ok p) = held
-restored held k (Err p) = insert held k p.0

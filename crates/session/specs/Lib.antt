@@ -1,3 +1,4 @@
+pub mod Places
 pub mod Acts
 pub mod Histories
 pub mod Desks

@@ -1,8 +1,8 @@
-ghost use Rattle.std.specs.Prelude.{◌≡◌, ◌+◌, ◌<◌, ◌≤◌, vec_len, vec_capacity};
 ghost use Rattle.bench.specs.Calls.{LookStands};
 ghost use Rattle.session.specs.Desks.{TurnLaw};
+ghost use Rattle.session.specs.Places.{HasRoom, TakesOnePlace};
 
-use crate::perform::{looked, perform};
+use crate::perform::perform;
 use crate::turn::Turn;
 use bench::{Calls, LookBench, Reply, Slip};
 use events::SheetEvent;
@@ -32,14 +32,14 @@ where
         held: &mut Vec<Slip>,
         turn: Turn<L::Event, P::Event>,
     ) -> Option<Reply>
-        requires { vec_len held.old < vec_capacity held.old }
+        requires { HasRoom held.old 1 }
         ensures law { TurnLaw (LookStands L.Observer.rule L.Observer.rest) P.Calls.stands X.Calls.stands Y.Calls.stands self.old held.old.items turn result self.new held.new.items }
-        ensures len { vec_len held.new ≤ vec_len held.old + 1 }
-        ensures capacity { vec_capacity held.new ≡ vec_capacity held.old }
+        ensures room { TakesOnePlace held.old held.new }
     {
+        // Each arm acts at a bench of a type of its own, so no arm can serve two.
         match turn {
             Turn::Watch(act) => perform(&mut self.watch, held, act),
-            Turn::Look => Some(looked(self.watch.look())),
+            Turn::Look => Some(self.watch.look().map_or_else(Reply::Refused, Reply::Looked)),
             Turn::Plain(act) => perform(&mut self.plain, held, act),
             Turn::First(act) => perform(&mut self.first, held, act),
             Turn::Second(act) => perform(&mut self.second, held, act),

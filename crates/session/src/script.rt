@@ -5,8 +5,8 @@ use crate::desk::Desk;
 use crate::turn::Turn;
 use bench::{Bench, LookBench, Reply, Slip};
 use events::SheetEvent;
-use observers::{FarSighted, Observer, Turning};
-use sheets::flow_port;
+use observers::{FarSighted, Observer, Port, Turning};
+use sheets::Flow;
 use std::alloc::AllocError;
 
 // The numbers of a session's benches, equal or not.
@@ -52,8 +52,8 @@ where
     let mut desk = Desk {
         watch: LookBench::new(numbers.watch, watch),
         plain: Bench::new(numbers.plain, plain),
-        first: Bench::new(numbers.first, flow_port(first)),
-        second: Bench::new(numbers.second, flow_port(second)),
+        first: Bench::new(numbers.first, Port::new(Flow, first)),
+        second: Bench::new(numbers.second, Port::new(Flow, second)),
     };
     for turn in turns {
         let reply = desk.turn(held, turn);

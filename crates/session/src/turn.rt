@@ -9,7 +9,8 @@ pub enum Act<E> {
     Close(usize),
 }
 
-// An act at one of four benches: the one with look, a plain one, and two over flow ports.
+// An act at one of four benches: the one with look, a plain one, and two over flow ports, which are cases of their own, since their observers may
+// differ in type.
 #[derive(Clone, Copy)]
 pub enum Turn<E, F> {
     Watch(Act<E>),

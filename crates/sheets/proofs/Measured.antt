@@ -32,21 +32,21 @@ module _ (w k : ℕ) (t : List SheetEvent) where
   -- one cell more in the line
   front_cell : (c : Cell) → Within w (k + 1) t → (line : List Cell) (after : List SheetEvent) → Struck c ∷ t ≡ map Struck line ++ after → k + length line ≤ w
   front_cell c h [] after e = omega (arith, h.front [] t refl)
-  front_cell c h (d ∷ line) after e = let f : t ≡ map Struck line ++ after = cc in omega (arith, h.front line after f)
+  front_cell c h (d ∷ line) after e = omega (arith, h.front line after (cc))
 
   inner_cell : (c : Cell) → Within w (k + 1) t → NoLineOver w (Struck c ∷ t)
   inner_cell c h [] after line e = omega (arith, front_cell c h line after e)
-  inner_cell c h (b ∷ before) after line e = let f : t ≡ before ++ (map Struck line ++ after) = cc in h.inner before after line f
+  inner_cell c h (b ∷ before) after line e = h.inner before after line (cc)
 
   -- an end closes the line
   front_end : (x : SheetEvent) → ((c : Cell) → x ≡ Struck c → ⊥) → k ≤ w → (line : List Cell) (after : List SheetEvent) → x ∷ t ≡ map Struck line ++ after → k + length line ≤ w
   front_end x end h [] after e = omega arith
-  front_end x end h (d ∷ line) after e = let f : x ≡ Struck d = cc in absurd (end d f)
+  front_end x end h (d ∷ line) after e = absurd (end d (cc))
 
   inner_end : (x : SheetEvent) → ((c : Cell) → x ≡ Struck c → ⊥) → Within w 0 t → NoLineOver w (x ∷ t)
   inner_end x end h [] after [] e = omega arith
-  inner_end x end h [] after (d ∷ line) e = let f : x ≡ Struck d = cc in absurd (end d f)
-  inner_end x end h (b ∷ before) after line e = let f : t ≡ before ++ (map Struck line ++ after) = cc in h.inner before after line f
+  inner_end x end h [] after (d ∷ line) e = absurd (end d (cc))
+  inner_end x end h (b ∷ before) after line e = h.inner before after line (cc)
 
   closes : (x : SheetEvent) → ((c : Cell) → x ≡ Struck c → ⊥) → (leb k w && fits w 0 t) ≡ true → (fits w 0 t ≡ true → Within w 0 t) → Within w k (x ∷ t)
   closes x end e f =
@@ -62,18 +62,18 @@ module _ (w k : ℕ) (t : List SheetEvent) where
 -- nothing has no line
 none : (w : ℕ) → NoLineOver w []
 none w before after [] e = omega arith
-none w [] after (c ∷ line) e = let z : ◌≡◌ {A = ℕ} 0 1 = cc in absurd (omega arith)
-none w (b ∷ before) after (c ∷ line) e = let z : ◌≡◌ {A = ℕ} 0 1 = cc in absurd (omega arith)
+none w [] after (c ∷ line) e = absurd (cc)
+none w (b ∷ before) after (c ∷ line) e = absurd (cc)
 
 none_front : (w k : ℕ) → k ≤ w → (line : List Cell) (after : List SheetEvent) → [] ≡ map Struck line ++ after → k + length line ≤ w
 none_front w k h [] after e = omega arith
-none_front w k h (c ∷ line) after e = let z : ◌≡◌ {A = ℕ} 0 1 = cc in absurd (omega arith)
+none_front w k h (c ∷ line) after e = absurd (cc)
 
 no_cell_line : (c : Cell) → LineEnd ≡ Struck c → ⊥
-no_cell_line c e = let z : ◌≡◌ {A = ℕ} 0 1 = cc in omega arith
+no_cell_line c e = cc
 
 no_cell_sheet : (c : Cell) → SheetEnd ≡ Struck c → ⊥
-no_cell_sheet c e = let z : ◌≡◌ {A = ℕ} 0 1 = cc in omega arith
+no_cell_sheet c e = cc
 
 from_test : (w k : ℕ) (t : List SheetEvent) → fits w k t ≡ true → Within w k t
 from_test w k [] e = record { front = none_front w k (leb-true k w e); inner = none w }

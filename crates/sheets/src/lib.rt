@@ -6,5 +6,5 @@ pub mod ports;
 pub mod ruler;
 
 pub use measure::RulerRefusal;
-pub use ports::{Flow, FlowPort, Hammer, HammerPort, flow_port, hammer_port};
+pub use ports::{Flow, FlowPort, Hammer, HammerPort};
 pub use ruler::Ruler;

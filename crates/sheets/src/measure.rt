@@ -1,9 +1,11 @@
 ghost use Rattle.std.specs.Prelude.{◌≡◌, nat_lt};
 ghost use Rattle.sheets.specs.Lines.{fits};
 ghost use Rattle.sheets.specs.Rulers.{RulerMade, ruler_number};
+ghost use Rattle.std.proofs.Common.{rules};
 
 use crate::ruler::Ruler;
 use events::SheetEvent;
+use numbered::Numbered;
 use observers::{FarSighted, Observer, Outlook};
 
 // Why no ruler is made.
@@ -12,10 +14,12 @@ pub enum RulerRefusal {
     WidthNot1To100 = 24,
 }
 
-impl RulerRefusal {
-    pub fn number(self) -> u8
-        ensures { result ≡ ruler_number self }
-    {
+impl Numbered for RulerRefusal {
+    ghost number = { ruler_number };
+
+    ghost apart = { Prim.search rules };
+
+    fn number(self) -> u8 {
         self as u8
     }
 }
@@ -24,7 +28,7 @@ impl Ruler {
     pub fn new(width: u32) -> Result<Ruler, RulerRefusal>
         ensures { RulerMade width result }
     {
-        if width < 1 || width > 100 {
+        if !(1..=100).contains(&width) {
             return Err(RulerRefusal::WidthNot1To100);
         }
         Ok(Ruler { width, cells: 0 })
@@ -49,8 +53,7 @@ impl Observer for Ruler {
         if !self.over() {
             self.cells = match e {
                 SheetEvent::Struck(_) => self.cells + 1,
-                SheetEvent::LineEnd => 0,
-                SheetEvent::SheetEnd => 0,
+                SheetEvent::LineEnd | SheetEvent::SheetEnd => 0,
             };
         }
     }

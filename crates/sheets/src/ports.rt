@@ -1,4 +1,3 @@
-ghost use Rattle.std.specs.Prelude.{◌≡◌};
 ghost use Rattle.sheets.specs.Ports.{flowing, hammered};
 
 use events::{Action, Cell, MachineEvent, SheetEvent};
@@ -40,9 +39,7 @@ impl Turning for Hammer {
             Action::Strike(cell) => Some(SheetEvent::Struck(cell)),
             Action::FeedLine => Some(SheetEvent::LineEnd),
             Action::FeedSheet => Some(SheetEvent::SheetEnd),
-            Action::Park => None,
-            Action::Jam => None,
-            Action::Cover => None,
+            Action::Park | Action::Jam | Action::Cover => None,
         }
     }
 }
@@ -50,15 +47,3 @@ impl Turning for Hammer {
 pub type FlowPort<O> = Port<Flow, O>;
 
 pub type HammerPort<O> = Port<Hammer, O>;
-
-pub fn flow_port<O>(below: O) -> Port<Flow, O>
-    ensures { result.below ≡ below }
-{
-    Port::new(Flow, below)
-}
-
-pub fn hammer_port<O>(below: O) -> Port<Hammer, O>
-    ensures { result.below ≡ below }
-{
-    Port::new(Hammer, below)
-}

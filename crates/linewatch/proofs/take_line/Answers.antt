@@ -1,30 +1,26 @@
-use Rattle.std.proofs.Common.{◌≡◌, true, [], ◌∷◌, ◌++◌, refl, subst}
-use Rattle.events.specs.declared.sheet.SheetEvent.{SheetEvent}
-use Rattle.bench.specs.Log.{Log, Take, grown}
+use Rattle.std.proofs.Common.{[], ◌∷◌, ◌++◌, refl}
+use Rattle.std.proofs.lemmas.Result.{err_from_is_err_and}
+use Rattle.bench.specs.Log.{Take, grown}
 use Rattle.bench.specs.Calls.{LookStands}
-use Rattle.bench.proofs.Ways.{grows}
-use Rattle.linewatch.proofs.Seen.{is_running, step_is}
+use Rattle.linewatch.proofs.Seen.{took, step_is}
 use Rattle.linewatch.proofs.take_line.Goals as goal
 
-pub returns-in-Err-take : goal.returns-in-Err-take
-returns-in-Err-take g c n rule l st =
-    let q = c.in-Err-take.ensures in
-    (c.in-Ok.event, c.in-Ok.ensures, ((q.law n rule l st).0.settled.refused c.in-Err-take.refusal).0 refl, q.same, refl)
+pub returns-in_err-take : goal.returns-in_err-take
+returns-in_err-take g c n rule l st =
+    let p = err_from_is_err_and c.from_residual-in_err-take.result c.from_residual-in_err-take.ensures.1 in
+    let q = c.in_err-take.ensures in
+    rw (p.1, p.2) (c.in_ok-event.event, c.in_ok-event.ensures, ((q.law n rule l st).0.settled.refused c.in_err-take.field-0.0).0 refl, q.same, refl)
 
 pub returns-in-Some : goal.returns-in-Some
 returns-in-Some g c n rule l st =
-    let e = c.in-Ok.event in
-    let q = c.in_default.ensures.law n rule l st in
-    let free = (q.0.settled.taken.0 refl).1 in
-    let at = subst (λ (x : Log SheetEvent). LookStands g.O.Observer.rule g.O.Observer.rest n rule c.take.new.self x) (grows n rule l (Take e) free) q.1 in
-    let on : l.running ≡ true = is_running l.running _ free in
-    (e, c.in-Ok.ensures, free, at, (c.in-Some.ensures n rule (grown l (Take e)) at on, refl))
+    let e = c.in_ok-event.event in
+    let q = c.in_ok-take.ensures.law n rule l st in
+    let t = took (LookStands g.O.Observer.rule g.O.Observer.rest) n rule l e c.take.new.self q.0 q.1 in
+    (e, c.in_ok-event.ensures, t.0, t.2, (c.in-Some.ensures n rule (grown l (Take e)) t.2 t.1, refl))
 
 pub returns : goal.returns
 returns g c n rule l st =
-    let e = c.in-Ok.event in
-    let q = c.in_default.ensures.law n rule l st in
-    let free = (q.0.settled.taken.0 refl).1 in
-    let at = subst (λ (x : Log SheetEvent). LookStands g.O.Observer.rule g.O.Observer.rest n rule c.take.new.self x) (grows n rule l (Take e) free) q.1 in
-    let on : l.running ≡ true = is_running l.running _ free in
-    (e, c.in-Ok.ensures, free, at, step_is rule (l.run ++ (e ∷ [])) e c.args.row.now c.follow.new.self c.follow.result (c.in_default-lost_since.ensures n rule (grown l (Take e)) at on) c.follow.ensures.value c.follow.ensures.after)
+    let e = c.in_ok-event.event in
+    let q = c.in_ok-take.ensures.law n rule l st in
+    let t = took (LookStands g.O.Observer.rule g.O.Observer.rest) n rule l e c.take.new.self q.0 q.1 in
+    (e, c.in_ok-event.ensures, t.0, t.2, step_is rule (l.run ++ (e ∷ [])) e c.args.row.now c.follow.new.self c.follow.result (c.in_default.ensures n rule (grown l (Take e)) t.2 t.1) c.follow.ensures.value c.follow.ensures.after)

@@ -1,6 +1,5 @@
-use Rattle.std.proofs.Common.{◌≤◌}
-use Rattle.readings.specs.Splits.{Both}
+use Rattle.std.proofs.Common.{◌<◌, ◌≤◌, IfSome}
 use Rattle.readings.proofs.splits.outside.Given as goal
 
 abbrev pub invariant-loop-i : goal.invariant-loop-i
-invariant-loop-i l = (l.open ≤ l.i) × Both l.i l.found
+invariant-loop-i l = (l.open ≤ l.i) × IfSome l.found (λ p. (p.0 < l.i) × (p.1 < l.i))

@@ -1,26 +1,37 @@
-use Rattle.std.proofs.Common.{◌≡◌, length, ap, ◌∙◌, subst, arith, length-set}
-use Rattle.rules.specs.Texts.{begins}
-use Rattle.rules.proofs.Sofar.{handed, spoils, at_last, one_more, moved}
+use Rattle.std.proofs.Common.{◌≡◌, length, Ok, Err, ap, ◌∙◌, arith}
+use Rattle.std.proofs.lemmas.Grind.{common_steps}
+use Rattle.std.proofs.lemmas.Result.{err_from_is_err_and}
+use Rattle.rules.proofs.Sofar.{spoils, at_last, one_more}
 use Rattle.rules.proofs.lexer.lex.Goals as goal
-
-pub returns-in-Err : goal.returns-in-Err
-returns-in-Err g c =
-    let h = handed _ _ _ _ _ _ _ _ _ c.loop-piece.invariant.0 c.in-Some.ensures.taken in
-    spoils _ _ _ _ _ _ _ _ _ c.loop-piece.invariant.1 h.0 h.1 (h.2 _ c.in-Err.ensures)
 
 pub loop-piece-preserved : goal.loop-piece-preserved
 loop-piece-preserved g c =
+    let k = c.loop-piece.invariant in
     let n = c.in-Some.ensures in
-    let h = handed _ _ _ _ _ _ _ _ _ c.loop-piece.invariant.0 n.taken in
-    let text-long = ap length c.loop-piece.invariant.0 in
-    let p = c.push.ensures in
-    let more = one_more _ _ _ _ _ _ _ _ _ _ c.loop-piece.invariant.1 h.0 h.1 (h.2 _ c.in-Ok.ensures) h.3 (omega (arith, n.within)) (omega (arith, n.moves, c.loop-piece.invariant.1.few)) (omega arith) (omega arith) in (
-      n.same ∙ c.loop-piece.invariant.0,
-      moved _ _ _ _ _ _ _ _ _ _ p.count p.words p.places more,
-      ap length p.words ∙ length-set _ _ _ ∙ c.loop-piece.invariant.2,
-      ap length p.places ∙ length-set _ _ _ ∙ c.loop-piece.invariant.3,
-    )
+    let p = c.in-Some.piece in
+    let taken = rw k.same at n.steps.1 in
+    let read : c.meaning.result ≡ Ok c.in_ok-word.word = grind (arith, common_steps) in
+    record {
+      can_next = tt;
+      is_finite = tt;
+      same = n.steps.0 ∙ k.same;
+      sofar = rw (c.push.ensures.words, c.push.ensures.places) (one_more _ _ _ _ _ _ k.sofar p _ _ taken (omega (arith, (n.goes.on tt).2, ap length n.steps.0)) (rw read at c.meaning.ensures));
+      end = c.push.ensures.end ∙ k.end;
+    }
+
+pub returns-in_err-word : goal.returns-in_err-word
+returns-in_err-word g c =
+    let k = c.loop-piece.invariant in
+    let p = c.in-Some.piece in
+    let taken = rw k.same at c.in-Some.ensures.steps.1 in
+    let e = err_from_is_err_and c.from_residual.result c.from_residual.ensures.1 in
+    let fault = c.in_err-word.field-0.0 in
+    let read : c.meaning.result ≡ Err fault.refusal = grind (arith, common_steps) in
+    let placed : fault.place ≡ p.place = grind (arith, common_steps) in
+    rw (e.1, e.2, placed) (spoils _ _ _ _ _ _ k.sofar p c.next.new.self.at _ taken (rw read at c.meaning.ensures))
 
 pub returns : goal.returns
 returns g c =
-    at_last _ _ _ _ _ _ _ c.loop-piece.invariant.1 (subst (λ z. begins z c.loop-piece.rest.at ≡ length z) c.loop-piece.invariant.0 c.in_default.ensures.taken)
+    let k = c.loop-piece.invariant in
+    let taken = rw k.same at c.in-None.ensures.steps.1 in
+    (at_last _ _ _ _ _ _ k.sofar c.next.new.self.at taken, k.end)

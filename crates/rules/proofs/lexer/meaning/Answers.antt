@@ -1,22 +1,18 @@
-use Rattle.std.proofs.Common.{Ok, Err, sym, subst}
-use Rattle.rules.specs.declared.refusal.RuleRefusal.TheVariants.{ForeignByte, LongName, UnknownName}
+use Rattle.std.proofs.Common.{◌≡◌, ℕ, ◌<◌, ◌≤◌, ◌≢◌, MatchOption, Option, Some, None, List, length}
+use Rattle.std.specs.Option.{IsSomeAnd, ok_or}
+use Rattle.formulas.specs.declared.word.Word.{Word}
 use Rattle.formulas.specs.declared.word.Word.TheVariants.{Name}
-use Rattle.rules.specs.Lexing.{Meant, mark, foreign, long, known, unknown}
+use Rattle.rules.specs.declared.words.Sign.TheVariants.{Letter}
+use Rattle.rules.specs.declared.refusal.RuleRefusal.TheVariants.{UnknownName}
+use Rattle.rules.specs.Lexing.{Meant, known, unknown}
 use Rattle.rules.proofs.lexer.meaning.Goals as goal
 
-pub returns-in-Mark : goal.returns-in-Mark
-returns-in-Mark g c = subst (λ s. Meant _ _ s c.args.part.now (Ok c.in-Mark.word)) (sym c.in-Mark.is) mark
+-- A name, or no name, from what was looked up.
+looked_up : (count : ℕ) (names : ℕ → List ℕ) (s : List ℕ) (n : Option ℕ) (w : Option Word) → length s ≤ 8 → MatchOption n ((m : ℕ) → m < count → names m ≢ s) (λ m. (m < count) × (names m ≡ s)) → MatchOption n (w ≡ None) (λ m. IsSomeAnd w (λ v. v ≡ Name m)) → Meant count names Letter s (ok_or w UnknownName)
+looked_up count names s None w short none is = rw is (unknown short none)
+looked_up count names s (Some m) None short found is = absurd is
+looked_up count names s (Some m) (Some v) short found is = rw is (known short found.0 found.1)
 
-pub returns-in-Foreign : goal.returns-in-Foreign
-returns-in-Foreign g c = subst (λ s. Meant _ _ s c.args.part.now (Err ForeignByte)) (sym c.in-Foreign.is) foreign
-
-pub returns-then-part-gt8 : goal.returns-then-part-gt8
-returns-then-part-gt8 g c = subst (λ s. Meant _ _ s c.args.part.now (Err LongName)) (sym c.in-Letter.is) (long c.if-part-gt8.true)
-
-pub returns-in-Some : goal.returns-in-Some
-returns-in-Some g c =
-    let k = c.in-Some.ensures in
-    subst (λ s. Meant _ _ s c.args.part.now (Ok (Name c.in-Some.n))) (sym c.in-Letter.is) (known c.if-part-gt8.false k.0 k.1)
-
-pub returns-in-None : goal.returns-in-None
-returns-in-None g c = subst (λ s. Meant _ _ s c.args.part.now (Err UnknownName)) (sym c.in-Letter.is) (unknown c.if-part-gt8.false c.in-None.ensures)
+pub returns-in-Letter-2 : goal.returns-in-Letter-2
+returns-in-Letter-2 g c =
+    rw (c.in-Letter-2.is, c.ok_or.ensures.value) (looked_up _ _ _ _ _ c.if-piece-gt8.false c.name_of.ensures c.map.ensures.cases)

@@ -1,19 +1,11 @@
-use Rattle.std.proofs.Common.{◌≡◌, ℕ, ◌≢◌, List, [], ◌∷◌, length, sym, refl, arith, eqb-true}
-use borrow.Author.Tests.{eqb-false}
-use Rattle.ruletext.proofs.Telling.{at_first, one_more, at_last}
+use Rattle.std.proofs.Common.{sym, subst}
+use Rattle.lines.specs.Lines.{Lined}
+use Rattle.lines.specs.Walks.{lines_left}
+use Rattle.lines.proofs.Walking.{all_walked}
+use Rattle.ruletext.proofs.Telling.{at_last}
 use Rattle.ruletext.proofs.checks.report_lines.Goals as goal
 
-empty : (l : List ℕ) → length l ≡ 0 → l ≡ []
-empty [] h = refl
-empty (x ∷ l) h = absurd (omega arith)
-
-pub loop-rest-init : goal.loop-rest-init
-loop-rest-init g c = at_first _ _ c.args.text.now c.args.out.now
-
-pub loop-rest-preserved : goal.loop-rest-preserved
-loop-rest-preserved g c =
-    let ne : length c.loop-rest.rest.now ≢ 0 = eqb-false (length c.loop-rest.rest.now) 0 (sym c.loop-rest-test.ensures) in
-    one_more _ _ _ _ _ _ _ _ _ c.loop-rest.invariant (omega arith) c.cut_line.ensures.cut c.report.ensures
-
 pub returns : goal.returns
-returns g c = at_last _ _ g.met.K.Kind.apart _ _ _ _ c.loop-rest.invariant (empty c.loop-rest.rest.now (eqb-true (length c.loop-rest.rest.now) 0 (sym c.loop-rest-test.ensures)))
+returns g c =
+    let lined = subst (λ s. Lined c.args.text.now (lines_left s)) (sym c.into_iter-line-iterator.ensures.into_iter_gives) c.new-line-items.ensures.lined in
+    at_last _ _ g.met.K.Kind.apart _ _ _ _ (all_walked _ _ _ c.next.new.self _ _ lined c.loop-line.yielded_by c.in-None.is c.next.ensures.steps) c.loop-line.invariant

@@ -1,8 +1,12 @@
-use Rattle.std.proofs.Common.{Some, codes}
-use Rattle.std.proofs.lemmas.Slice.Eq.{strip_prefix_is}
+use Rattle.std.proofs.Common.{◌≡◌, ◌++◌, arith}
+use Rattle.script.specs.Seats.{called}
+use Rattle.script.specs.declared.seat.Seat.TheVariants.{Ruler, Hammer, First, Second}
 use Rattle.script.proofs.seat.read_seat.Goals as goal
-use Rattle.std.proofs.lemmas.Bool.Decides.{Decides-eqb}
 
-pub returns-in-Some-strip_prefix-3 : goal.returns-in-Some-strip_prefix-3
-returns-in-Some-strip_prefix-3 c =
-    strip_prefix_is Decides-eqb c.args.line.now (codes "second ") (Some c.in-Some-strip_prefix-3.act) c.in-Some-strip_prefix-3.ensures.cases
+pub returns : goal.returns
+returns c s act = elim s as (λ t. c.args.line.now ≡ called t ++ act → ⊥) [
+  | Ruler ↦ c.loop-seat.invariant 0 act (omega arith)
+  | Hammer ↦ c.loop-seat.invariant 1 act (omega arith)
+  | First ↦ c.loop-seat.invariant 2 act (omega arith)
+  | Second ↦ c.loop-seat.invariant 3 act (omega arith)
+]

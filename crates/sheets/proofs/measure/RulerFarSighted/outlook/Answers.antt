@@ -1,4 +1,4 @@
-use Rattle.std.proofs.Common.{◌+◌, ◌<◌, ◌≤◌, [], sym, ◌∙◌, arith}
+use Rattle.std.proofs.Common.{◌+◌, ◌≤◌, [], sym, ◌∙◌, arith}
 use Rattle.std.proofs.lemmas.Bool.{le-leb, ltb-true, ltb-false}
 use Rattle.observers.specs.declared.observer.Outlook.TheVariants.{Lost, Open}
 use Rattle.observers.proofs.Foreseen.{foreseen}
@@ -9,8 +9,7 @@ use Rattle.sheets.proofs.measure.RulerFarSighted.outlook.Goals as goal
 pub returns-then-over : goal.returns-then-over
 returns-then-over c =
     let s = c.args.self.now in
-    let h : s.width < s.cells = ltb-true s.width s.cells (sym c.over.ensures ∙ c.if-over.true) in
-    foreseen (fits s.width s.cells) Lost (over s.width s.cells h)
+    foreseen (fits s.width s.cells) Lost (over s.width s.cells (grind (arith, ltb-true)))
 
 pub returns-else-over : goal.returns-else-over
 returns-else-over c =
