@@ -4,7 +4,7 @@ ghost use Rattle.formulas.specs.declared.node.Node.TheVariants.{Constant};
 use crate::binary::Binary;
 use crate::unary::Unary;
 
-// A node of a formula; operands are the indices of other nodes, since a rule is kept in fixed memory, with no heap.
+// A node of a formula; a name is its number, as in a word, and operands are the indices of other nodes, since a rule is kept in fixed memory, with no heap.
 // `before` is how many temporal operators stand before the node's word in the text: a temporal operator's own promise has that number.
 #[derive(Clone, Copy)]
 pub enum Node {

@@ -4,7 +4,7 @@ ghost use Rattle.formulas.specs.Formulas.{node, temporal};
 use crate::binary::Binary;
 use crate::unary::Unary;
 
-// A word of a rule; a name is its number in the kind of events. The default stands where a row of fixed length has no word.
+// A word of a rule; a name is its number in the kind of events, since by a rule of the project no name is known otherwise above `events`. The default stands where a row of fixed length has no word.
 #[derive(Clone, Copy, PartialEq, Eq, Default)]
 pub enum Word {
     Name(u8),

@@ -24,7 +24,8 @@ pub trait Observer {
         ensures rest { rest self.new ≡ rule self.old };
 }
 
-// What can still become of a run.
+// What can still become of a run. A bench tells these cases with a count: one enum over what stands with a case would have every observer write
+// `Lost(())`.
 #[derive(Clone, Copy, PartialEq, Eq, Debug)]
 pub enum Outlook {
     Lost,

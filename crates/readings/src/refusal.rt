@@ -1,7 +1,7 @@
 use std::alloc::{AllocError, AllocFailed};
 use std::fmt;
 
-// Why a text is no rule, by number.
+// Why a text is no rule, by number. A list of its own, though alike, since the second reading shares no code with the library.
 #[derive(Clone, Copy)]
 pub enum Refusal {
     LongText = 10,

@@ -26,7 +26,7 @@ pub fn open_brackets(words: &[Word]) -> Result<usize, NoRule> {
     Ok(open)
 }
 
-// The first and the last index of an operator outside brackets.
+// The first and the last index of an operator outside brackets. A `for` with the index, since the brackets that are open are counted on the way.
 fn outside(words: &[Word], operator: Joint) -> Option<(usize, usize)>
     ensures { IfSome result (λ p. (p.0 < length words.now) × (p.1 < length words.now)) }
 {

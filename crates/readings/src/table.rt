@@ -9,6 +9,7 @@ pub struct Entry<'a> {
 }
 
 impl<'a> Entry<'a> {
+    // No `TryFrom`, since there is nothing to tell of a line that is no entry.
     pub fn of(line: &'a [u8]) -> Option<Entry<'a>> {
         let [letter, b' ', rest @ ..] = line else {
             return None;

@@ -5,7 +5,8 @@ use std::fmt;
 
 const LONGEST_NAME: usize = 8;
 
-// An operator before its operand.
+// An operator before its operand. It and the words below are enums of their own, though alike, since the second reading shares no code with the
+// library.
 #[derive(Clone, Copy)]
 pub enum Prefix {
     Not,
@@ -60,6 +61,7 @@ pub enum Word {
 }
 
 impl Word {
+    // No `TryFrom<u8>`, since a letter by itself is no word: it begins a name.
     fn sign(byte: u8) -> Result<Word, Refusal> {
         match byte {
             b'(' => Ok(Word::Open),

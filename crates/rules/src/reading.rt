@@ -14,6 +14,7 @@ use std::marker::PhantomData;
 
 impl<K: Kind> Rule<K> {
     #[tactic(auto, using(crate::proofs::Moved::alone), unfolding(formulas::specs::Trees::formula_at))]
+    // No `From<bool>`, since only the rule `0` is made so.
     fn of_constant(truth: bool) -> Rule<K>
         ensures { rule_formula result ≡ constant truth }
     {

@@ -39,12 +39,14 @@ impl From<u8> for Sign {
     }
 }
 
+// By literals as match cases, as above.
 fn is_space(b: u8) -> bool
     ensures { result ≡ (b == 32) }
 {
     matches!(b as char, ' ')
 }
 
+// By literals as match cases, as above.
 fn is_letter(b: u8) -> bool
     ensures { result ≡ letter b }
 {

@@ -25,7 +25,7 @@ pub(crate) fn show_fault<R: Numbered>(refusal: R, place: usize, out: &mut Writer
     out.put_number(place);
 }
 
-// By literals as match cases, as characters are decided everywhere here.
+// By literals as match cases, by a rule of the project.
 fn printed(b: u8) -> u8
     ensures { result ≡ printing b }
 {

@@ -14,6 +14,7 @@ pub(crate) fn perform<B: Calls>(
     ensures law { ActLaw B.Calls.stands bench.old held.old.items act result bench.new held.new.items }
     ensures room { TakesOnePlace held.old held.new }
 {
+    // Each act is another call with another answer, so there is no one step that could be passed in.
     Some(match act {
         Act::Open => match bench.open() {
             Ok(slip) => {
