@@ -6,7 +6,7 @@ ghost use Rattle.std.proofs.Common.{rules};
 
 mod words;
 
-use numbered::Numbered;
+pub use numbered::Numbered;
 
 // Why a call on a bench is refused, with the number that a refusal is known by.
 #[derive(Clone, Copy, PartialEq, Eq, Debug)]

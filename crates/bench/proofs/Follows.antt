@@ -11,10 +11,12 @@ use Rattle.answers.specs.declared.Sight.TheVariants as sight
 use Rattle.answers.specs.declared.Reply.{Reply}
 use Rattle.answers.specs.declared.Reply.TheVariants.{Opened, Taken, Closed, Refused}
 use Rattle.bench.specs.declared.plain.Bench.{Bench}
+use Rattle.bench.specs.declared.run.Run.{Run}
+use Rattle.bench.specs.declared.run.Run.TheVariants as run
 use Rattle.bench.specs.declared.looking.LookBench.{LookBench}
 use Rattle.bench.specs.Log.{Log, Call, Open, Take, Ask, Look, Close, grown, after}
 use Rattle.bench.specs.Law.{Answered}
-use Rattle.bench.specs.Calls.{Stands, Remembers, SeenAfter, SeenNow, LookStands, Lawful, look_reply}
+use Rattle.bench.specs.Calls.{events_of, open_count, Stands, Remembers, SeenAfter, SeenNow, LookStands, Lawful, look_reply}
 use Rattle.bench.proofs.Ways.{grew, stays, looked, unlooked}
 use Rattle.bench.proofs.Sights.{OpenBefore, looks, open_before, lasts, seen_now}
 
@@ -30,9 +32,14 @@ looks_at : {E : Type 0} (n : ℕ) (rule : List E → Bool) (l : Log E) (s : Opti
 looks_at n rule l None on known = unlooked n rule l NoRunOpen (simp (← on))
 looks_at n rule l (Some s) on known = looked n rule l s (simp (← on)) (looks rule l.run s known)
 
+-- the count of an open run is the count of the run
+counts : (r : Run) (n : ℕ) → events_of r ≡ n → IfSome (open_count r) (λ k. k ≡ n)
+counts (run.Open k) n e = e
+counts (run.Ended k) n e = tt
+
 module _ {E O : Type 0} {rules rests : O → List E → Bool} where
   sees : (n : ℕ) (rule : List E → Bool) (l : Log E) (b : Bench O) (s : Option Sight) → Stands rules rests n rule b l → OpenBefore rule l.run → SeenNow rests b s → LookStands rules rests n rule (record { bench = b; sight = s }) l
-  sees n rule l b s st wide p = let q = seen_at rule l (rests b.observer) b.count s st.running_is st.counted st.rests_at wide p in record { bare = st; looking_is = q.0; sighted = q.1 }
+  sees n rule l b s st wide p = let q = seen_at rule l (rests b.observer) (open_count b.run) s st.running_is (counts b.run (length l.run) st.counted) st.rests_at wide p in record { bare = st; looking_is = q.0; sighted = q.1 }
 
   -- the outlook of a run that was open to both is asked again, and what is settled lasts
   followed : (n : ℕ) (rule : List E → Bool) (l : Log E) (e : E) (o : Option Sight) (b : Bench O) (s : Option Sight) → Stands rules rests n rule b (grown l (Take e)) → is_some o ≡ l.running → IfSome o (Remembers rule l.run) → (o ≡ Some sight.Open → SeenNow rests b s) → ((o ≡ Some sight.Open → ⊥) → s ≡ o) → LookStands rules rests n rule (record { bench = b; sight = s }) (grown l (Take e))

@@ -1,5 +1,5 @@
 -- How a bench stands at its log, and the law of each call.
-use Rattle.std.specs.Prelude.{◌≡◌, ℕ, ◌≤◌, Bool, true, false, List, ◌++◌, length, None, Ok, Err, Option, Result, is_some, IfSome, IsSomeAnd, MatchOption}
+use Rattle.std.specs.Prelude.{◌≡◌, ℕ, ◌≤◌, Bool, true, false, List, ◌++◌, length, Some, None, Ok, Err, Option, Result, is_some, IfSome, IsSomeAnd, MatchOption}
 use Rattle.std.specs.Result.{result_map_both}
 use Rattle.bench.specs.declared.slip.Slip.{Slip}
 use Rattle.answers.specs.declared.Refusal.{Refusal}
@@ -9,6 +9,8 @@ use Rattle.answers.specs.declared.Sight.TheVariants.{Open, Lost, Safe}
 use Rattle.answers.specs.declared.Reply.{Reply}
 use Rattle.answers.specs.declared.Reply.TheVariants.{Opened, Taken, Told, Looked, Closed, Refused}
 use Rattle.bench.specs.declared.plain.Bench.{Bench}
+use Rattle.bench.specs.declared.run.Run.{Run}
+use Rattle.bench.specs.declared.run.Run.TheVariants.{Open as openRun, Ended}
 use Rattle.bench.specs.declared.looking.LookBench.{LookBench}
 use Rattle.observers.specs.declared.observer.Outlook.{Outlook}
 use Rattle.observers.specs.declared.observer.Outlook.TheVariants.{Lost as outlookLost, Safe as outlookSafe, Open as outlookOpen}
@@ -17,13 +19,23 @@ use Rattle.bench.specs.Log.{Log, Call, after}
 use Rattle.bench.specs.Sight.{beyond, LostAt, SafeAt}
 use Rattle.bench.specs.Law.{Answered}
 
+-- how many events a run has
+abbrev pub events_of : Run → ℕ
+events_of (openRun k) = k
+events_of (Ended k) = k
+
+-- how many events a run has, while it is open
+abbrev pub open_count : Run → Option ℕ
+open_count (openRun k) = Some k
+open_count (Ended k) = None
+
 -- a bench of the number n, over an observer of this rule, stands at the log l; rules and rests are those of its observers
 pub record Stands {E O : Type 0} (rules rests : O → List E → Bool) (n : ℕ) (rule : List E → Bool) (b : Bench O) (l : Log E) : Type 0 where
   pub number_is : b.number ≡ n
   pub rule_is : rules b.observer ≡ rule
   pub opened_is : b.opened ≡ l.opened
-  pub running_is : is_some b.count ≡ l.running
-  pub counted : IfSome b.count (λ k. k ≡ length l.run)
+  pub running_is : is_some (open_count b.run) ≡ l.running
+  pub counted : events_of b.run ≡ length l.run
   pub rests_at : l.running ≡ true → (t : List E) → rests b.observer t ≡ rule (l.run ++ t)
 
 -- what a bench with look remembers of its run: open after each number of events so far, or since when it is lost or safe
@@ -44,7 +56,7 @@ SeenAfter rest n s = (o : Outlook) × Foresees rest o × (s ≡ sight_at o n)
 
 -- what is remembered once the outlook of the bench's open run was asked, if one is open
 abbrev pub SeenNow : {E O : Type 0} → (O → List E → Bool) → Bench O → Option Sight → Type 0
-SeenNow rests b s = MatchOption b.count (s ≡ None) (λ n. IsSomeAnd s (SeenAfter (rests b.observer) n))
+SeenNow rests b s = MatchOption (open_count b.run) (s ≡ None) (λ n. IsSomeAnd s (SeenAfter (rests b.observer) n))
 
 -- a bench with look stands at the log l where the bench inside does, and while a run is open it remembers what can be seen of it
 pub record LookStands {E O : Type 0} (rules rests : O → List E → Bool) (n : ℕ) (rule : List E → Bool) (b : LookBench O) (l : Log E) : Type 0 where

@@ -4,9 +4,10 @@
 pub mod calls;
 pub mod looking;
 pub mod plain;
+mod run;
 pub mod slip;
 
-pub use answers::{Refusal, Reply, Report, Sight};
+pub use answers::{Numbered, Refusal, Reply, Report, Sight};
 pub use calls::Calls;
 pub use looking::LookBench;
 pub use plain::Bench;

@@ -47,7 +47,7 @@ impl<O: FarSighted> LookBench<O> {
     fn seen(&self) -> Option<Sight>
         ensures { SeenNow O.Observer.rest self.now.bench result }
     {
-        let count = self.bench.count?;
+        let count = self.bench.run.open_count()?;
         Some(sight_at(self.bench.observer.outlook(), count))
     }
 

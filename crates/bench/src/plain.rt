@@ -3,6 +3,7 @@ ghost use Rattle.bench.specs.Log.{fresh};
 ghost use Rattle.bench.specs.Calls.{Stands};
 
 use crate::calls::Calls;
+use crate::run::Run;
 use crate::slip::{Slip, write_off};
 use answers::{Refusal, Report};
 use observers::Observer;
@@ -11,12 +12,12 @@ const MOST_RUNS: u16 = 65_535;
 
 const MOST_EVENTS: u32 = 1_000_000;
 
-// The count is of the events of the open run, if one is open.
+// A run that has ended keeps its count until the next opening.
 #[derive(Drop)]
 pub struct Bench<O> {
     number: u16,
     opened: u16,
-    pub(crate) count: Option<u32>,
+    pub(crate) run: Run,
     pub(crate) observer: O,
 }
 
@@ -27,7 +28,7 @@ impl<O: Observer> Bench<O> {
         Bench {
             number,
             opened: 0,
-            count: None,
+            run: Run::Ended(0),
             observer,
         }
     }
@@ -56,7 +57,7 @@ where
             return Err(Refusal::RunsSpent);
         }
         self.opened += 1;
-        self.count = Some(0);
+        self.run = Run::Open(0);
         self.observer.restart();
         Ok(Slip {
             bench: self.number,
@@ -65,25 +66,25 @@ where
     }
 
     fn take(&mut self, e: O::Event) -> Result<(), Refusal> {
-        let count = self.count.ok_or(Refusal::NoRunOpen)?;
+        let count = self.run.open_count().ok_or(Refusal::NoRunOpen)?;
         if count >= MOST_EVENTS {
             return Err(Refusal::RunFull);
         }
-        self.count = Some(count + 1);
+        self.run = Run::Open(count + 1);
         self.observer.take(e);
         Ok(())
     }
 
     fn ask(&self) -> Result<Report, Refusal> {
-        let count = self.count.ok_or(Refusal::NoRunOpen)?;
+        let count = self.run.open_count().ok_or(Refusal::NoRunOpen)?;
         Ok(self.report(count))
     }
 
     fn close(&mut self, slip: Slip) -> Result<Report, (Slip, Refusal)> {
         // The two numbers are compared as they are: a struct of both would be made anew here only to be compared.
-        match self.count {
-            Some(count) if slip.bench == self.number && slip.run == self.opened => {
-                self.count = None;
+        match self.run {
+            Run::Open(count) if slip.bench == self.number && slip.run == self.opened => {
+                self.run = Run::Ended(count);
                 write_off(slip);
                 Ok(self.report(count))
             }

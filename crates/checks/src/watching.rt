@@ -1,5 +1,6 @@
-use bench::{Calls, LookBench, write_off};
-use linewatch::{Row, Step, take_line};
+use bench::{Calls, LookBench, Refusal, write_off};
+use linewatch::{Row, Step, TakeRefusal, take_line};
+use notation::LineRefusal;
 use numbered::Numbered;
 use sheets::Ruler;
 use std::test::Fail;
@@ -52,5 +53,33 @@ fn lines_of_two_cells(rt: HostRuntime) -> Result<(), Fail> {
         assert_eq!(rt; told(&mut bench, &mut row, line), expected);
     }
     assert_eq!(rt; row.number, 4);
+    Ok(())
+}
+
+const TAKE_WORDS: [(TakeRefusal, &str); 5] = [
+    (
+        TakeRefusal::Line(LineRefusal::CellOver63),
+        "no cell is over 63",
+    ),
+    (TakeRefusal::Line(LineRefusal::KindUnknown), "no such kind"),
+    (
+        TakeRefusal::Line(LineRefusal::BitNotZero),
+        "a bit is not zero",
+    ),
+    (
+        TakeRefusal::Line(LineRefusal::NotAnEvent),
+        "this is no event",
+    ),
+    (
+        TakeRefusal::Bench(Refusal::RunFull),
+        "the run takes no more events",
+    ),
+];
+
+#[test]
+fn what_is_not_taken_in_words(rt: HostRuntime) -> Result<(), Fail> {
+    for (refusal, expected) in TAKE_WORDS {
+        assert_eq!(rt; format!(in rt.alloc(); "{refusal}")?.as_str(), expected);
+    }
     Ok(())
 }

@@ -11,6 +11,7 @@ pub mod word;
 pub use cell::Cell;
 pub use kind::{Kind, NoName};
 pub use machine::{Action, MachineName};
+pub use numbered::Numbered;
 pub use refusal::EventRefusal;
 pub use sheet::{SheetEvent, SheetName};
 pub use word::MachineEvent;

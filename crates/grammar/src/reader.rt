@@ -66,9 +66,7 @@ impl<'a> Reader<'a> {
         requires { length (front self.old.tree) < self.old.at }
         ensures { Pushed self.old node self.new result }
     {
-        let root = self.tree.nodes.len();
-        self.tree.nodes.push(node);
-        root as u8
+        self.tree.push(node)
     }
 
     // Reads an infix operator, where it is the next word.

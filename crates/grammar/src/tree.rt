@@ -1,5 +1,4 @@
-ghost use Rattle.std.specs.Prelude.{◌≡◌, ◌≤◌, [], length};
-ghost use Rattle.grammar.specs.Nodes.{front};
+ghost use Rattle.std.specs.Prelude.{◌≤◌, length};
 
 use arrayvec::ArrayVec;
 use formulas::Node;
@@ -9,9 +8,13 @@ use formulas::Node;
 pub struct Tree {
     pub(crate) nodes: ArrayVec<Node, 256>,
     pub(crate) operators: usize,
+    ghost few: { length nodes.items ≤ 256 },
 }
 
 impl Tree {
+    ghost use Rattle.std.specs.Prelude.{◌≡◌, ◌<◌, ◌≤◌, [], ◌∷◌, ◌++◌, length};
+    ghost use Rattle.grammar.specs.Nodes.{front};
+
     pub(crate) fn new() -> Tree
         ensures nodes { front result ≡ [] }
         ensures operators { result.operators ≡ 0 }
@@ -20,6 +23,18 @@ impl Tree {
             nodes: ArrayVec::new(),
             operators: 0,
         }
+    }
+
+    // Adds a node, and tells its index.
+    pub(crate) fn push(&mut self, node: Node) -> u8
+        requires { length (front self.old) < 256 }
+        ensures root { result ≡ length (front self.old) }
+        ensures added { front self.new ≡ front self.old ++ node ∷ [] }
+        ensures operators { self.new.operators ≡ self.old.operators }
+    {
+        let root = self.nodes.len();
+        self.nodes.push(node);
+        root as u8
     }
 
     pub fn nodes(&self) -> &[Node]

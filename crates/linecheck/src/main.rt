@@ -26,12 +26,17 @@ fn asked_width(rt: &HostRuntime) -> io::Result<Option<u32>> {
 }
 
 // Takes the events of all lines, up to the first refusal or to the moment when the run is lost. The runtime goes beside the bench, as to every
-// function that prints.
+// function that prints. The lines share one buffer: `split` would make one for each, which costs time and can fail at any line for want of memory.
 fn take_all(rt: &HostRuntime, bench: &mut LookBench<Ruler>) -> io::Result<Ending> {
-    let input = BufReader::new(rt.alloc(), rt.stdin())?;
+    let mut input = BufReader::new(rt.alloc(), rt.stdin())?;
     let mut row = Row::first();
-    for (line, number) in input.split(rt.alloc(), b'\n').zip(1u64..) {
-        match take_line(bench, &mut row, line?.as_slice()) {
+    let mut line = Vec::new(rt.alloc());
+    for number in 1..u64::MAX {
+        line.clear();
+        if input.read_until(b'\n', &mut line)? == 0 {
+            break;
+        }
+        match take_line(bench, &mut row, line.strip_suffix(b"\n").unwrap_or(&line)) {
             Ok(Step::Struck) => {}
             Ok(Step::RowClosed(row)) => {
                 println!(rt; "line {} closed: {} cells", row.number, row.cells)?;

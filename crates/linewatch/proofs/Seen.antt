@@ -6,7 +6,7 @@ use Rattle.answers.specs.declared.Refusal.{Refusal}
 use Rattle.answers.specs.declared.Refusal.TheVariants.{NoRunOpen}
 use Rattle.answers.specs.declared.Sight.{Sight}
 use Rattle.answers.specs.declared.Sight.TheVariants.{Lost}
-use Rattle.answers.specs.declared.Reply.TheVariants.{Taken, Looked}
+use Rattle.answers.specs.declared.Reply.TheVariants.{Taken, Looked, Refused}
 use Rattle.bench.specs.Log.{Log, Take, Look, refusal, grown, after}
 use Rattle.bench.specs.Sight.{Sees, LostAt}
 use Rattle.bench.specs.Law.{Answered}
@@ -22,13 +22,16 @@ module _ {E : Type 0} (n : ℕ) (rule : List E → Bool) (l : Log E) (on : l.run
   free : refusal n l Look ≡ None
   free = simp on
 
-  seen : (s : Sight) → Answered n rule l Look (Looked s) → Sees rule l.run s
+  pub not_refused : (x : Refusal) → Answered n rule l Look (Refused x) → ⊥
+  not_refused x p = cc (free, (p.settled.refused x).0 refl)
+
+  pub seen : (s : Sight) → Answered n rule l Look (Looked s) → Sees rule l.run s
   seen s p = let t = p.sighted free in subst (λ (v : Sight). Sees rule l.run v) (cc (t.1)) t.2
 
   -- an open run is not refused a look
   given : (r : Result Sight Refusal) → Answered n rule l Look (look_reply r) → (s : Sight) × (r ≡ Ok s) × Sees rule l.run s
   given (Ok s) p = (s, refl, seen s p)
-  given (Err x) p = absurd (cc (free, (p.settled.refused x).0 refl))
+  given (Err x) p = absurd (not_refused x p)
 
   pub lost : (r : Result Sight Refusal) (m : ℕ) → r ≡ Ok (Lost m) → Answered n rule l Look (look_reply r) → LostAt rule l.run m
   lost r m e p = let q = given r p in (q.2.lost m).0 (cc (q.1))
@@ -36,7 +39,8 @@ module _ {E : Type 0} (n : ℕ) (rule : List E → Bool) (l : Log E) (on : l.run
   pub not_lost : (r : Result Sight Refusal) → ((m : ℕ) → r ≡ Ok (Lost m) → ⊥) → Answered n rule l Look (look_reply r) → NotLost rule l.run
   not_lost r other p m h = let q = given r p in other m (cc (q.1, (q.2.lost m).1 h))
 
-is_running : (b : Bool) (o : Option Refusal) → cond b o (Some NoRunOpen) ≡ None → b ≡ true
+-- a take that is not refused is of an open run
+pub is_running : (b : Bool) (o : Option Refusal) → cond b o (Some NoRunOpen) ≡ None → b ≡ true
 is_running true o e = refl
 is_running false o e = absurd (cc)
 

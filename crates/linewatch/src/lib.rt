@@ -11,6 +11,7 @@ mod refusal;
 use bench::{Calls, LookBench, Sight};
 use events::SheetEvent;
 use notation::Notation;
+pub use numbered::Numbered;
 use observers::{FarSighted, Observer};
 pub use refusal::TakeRefusal;
 

@@ -1,5 +1,5 @@
 -- A line has one meaning.
-use Rattle.std.specs.Prelude.{◌≡◌, ℕ, zero, suc, ◌/◌, ◌%◌, ◌^◌, ◌<◌, ◌≤◌, List, Ok, Err, Result, slice_index, refl}
+use Rattle.std.specs.Prelude.{◌≡◌, ℕ, zero, suc, ◌/◌, ◌%◌, ◌^◌, ◌<◌, ◌≤◌, List, Ok, Err, Result, ◌≢◌, slice_index, refl}
 use Rattle.std.proofs.Common.{sym, ap, ◌∙◌, pow-suc, arith}
 use Rattle.std.proofs.lemmas.List.{same_from_push}
 use Rattle.events.specs.declared.cell.Cell.{Cell}
@@ -26,19 +26,37 @@ cell_line_same m n u v p =
 cell_small : (c : Cell) → c.dots < 100
 cell_small c = let u = c.six in omega arith
 
+never : ◌≡◌ {A = ℕ} 0 1 → ⊥
+never e = omega arith
+
+-- no cell is written as an end is, and the two ends are not written alike
+struck_e : (n : ℕ) → cell_line n ≢ sheet_line LineEnd
+struck_e n p = never (cc)
+
+struck_p : (n : ℕ) → cell_line n ≢ sheet_line SheetEnd
+struck_p n p = never (cc)
+
+e_p : sheet_line LineEnd ≡ sheet_line SheetEnd → ⊥
+e_p p = omega (arith, ap (λ (l : List ℕ). slice_index l 0) p)
+
 sheet_line_same : (e f : SheetEvent) → sheet_line e ≡ sheet_line f → e ≡ f
 sheet_line_same (Struck c) (Struck d) p = ap Struck (same c d (cell_line_same c.dots d.dots (cell_small c) (cell_small d) p))
 sheet_line_same LineEnd LineEnd p = refl
 sheet_line_same SheetEnd SheetEnd p = refl
-sheet_line_same e f p = absurd (omega (arith, ap (λ (l : List ℕ). slice_index l 0) p))
+sheet_line_same (Struck c) LineEnd p = absurd (struck_e c.dots p)
+sheet_line_same (Struck c) SheetEnd p = absurd (struck_p c.dots p)
+sheet_line_same LineEnd (Struck d) p = absurd (struck_e d.dots (sym p))
+sheet_line_same SheetEnd (Struck d) p = absurd (struck_p d.dots (sym p))
+sheet_line_same LineEnd SheetEnd p = absurd (e_p p)
+sheet_line_same SheetEnd LineEnd p = absurd (e_p (sym p))
 
 sheet_or_none : (l : List ℕ) (x : SheetEvent) (e : LineRefusal) → SheetRead l (Ok x) → SheetRead l (Err e) → ⊥
 sheet_or_none l (Struck c) CellOver63 p q =
     let u = c.six in
     let e = cell_line_same c.dots q.0 (cell_small c) q.2 (sym p ∙ q.3) in
     omega (arith, q.1)
-sheet_or_none l LineEnd CellOver63 p q = omega (arith, ap (λ (s : List ℕ). slice_index s 0) (sym p ∙ q.3))
-sheet_or_none l SheetEnd CellOver63 p q = omega (arith, ap (λ (s : List ℕ). slice_index s 0) (sym p ∙ q.3))
+sheet_or_none l LineEnd CellOver63 p q = struck_e q.0 (sym q.3 ∙ p)
+sheet_or_none l SheetEnd CellOver63 p q = struck_p q.0 (sym q.3 ∙ p)
 sheet_or_none l x KindUnknown p q = q
 sheet_or_none l x BitNotZero p q = q
 sheet_or_none l (Struck c) NotAnEvent p q = q.0 c.dots (cell_small c) p

@@ -10,4 +10,5 @@ pub mod sheet;
 
 pub use letter::{KindLetter, KindRefusal, read_kind};
 pub use line::Notation;
+pub use numbered::Numbered;
 pub use refusal::LineRefusal;

@@ -1,8 +1,7 @@
 use crate::second;
 use crate::second::Shown;
-use crate::table::Entry;
+use crate::table::{Entry, Names};
 use events::{Kind, MachineEvent, SheetEvent};
-use notation::KindLetter;
 use output::Writer;
 use ruletext::report;
 use std::alloc::{AllocError, Global};
@@ -64,9 +63,9 @@ impl Reports {
 
     // The kind of a text is a value, and the kind itself a type, which only a match can pick.
     pub fn of(heap: Global, entry: Entry<'_>) -> Result<Reports, AllocError> {
-        match entry.kind {
-            KindLetter::Sheet => Reports::by::<SheetEvent>(heap, entry.text),
-            KindLetter::Machine => Reports::by::<MachineEvent>(heap, entry.text),
+        match entry.names {
+            Names::Sheet => Reports::by::<SheetEvent>(heap, entry.text),
+            Names::Machine => Reports::by::<MachineEvent>(heap, entry.text),
         }
     }
 

@@ -4,15 +4,6 @@ use crate::refusal::{NoRule, Stop};
 use crate::words::{Joint, Word};
 use std::alloc::{AllocError, Global};
 
-// The operators between two parts, the weakest first.
-const JOINTS: [Joint; 5] = [
-    Joint::Agrees,
-    Joint::Implies,
-    Joint::Or,
-    Joint::And,
-    Joint::Until,
-];
-
 // How many brackets are open after the words, where none closes that was not open.
 pub fn open_brackets(words: &[Word]) -> Result<usize, NoRule> {
     let mut open: usize = 0;
@@ -26,20 +17,34 @@ pub fn open_brackets(words: &[Word]) -> Result<usize, NoRule> {
     Ok(open)
 }
 
-// The first and the last index of an operator outside brackets. A `for` with the index, since the brackets that are open are counted on the way.
-fn outside(words: &[Word], operator: Joint) -> Option<(usize, usize)>
-    ensures { IfSome result (λ p. (p.0 < length words.now) × (p.1 < length words.now)) }
+// An operator with its first and its last index among those outside brackets.
+#[derive(Clone, Copy)]
+struct Spread {
+    operator: Joint,
+    first: usize,
+    last: usize,
+}
+
+// The weakest operator outside brackets, if there is one. A `for` with the index, since the brackets that are open are counted on the way; one
+// pass over the words for all operators, since most of a reading's time goes here.
+fn weakest(words: &[Word]) -> Option<Spread>
+    ensures { IfSome result (λ s. (s.first < length words.now) × (s.last < length words.now)) }
 {
-    let mut found = None;
+    let mut found: Option<Spread> = None;
     let mut open: usize = 0;
     for (i, word) in words.iter().enumerate() {
         match word {
             Word::Open => open += 1,
             Word::Close => open = open.saturating_sub(1),
-            Word::Between(joint) if *joint == operator && open == 0 => {
+            Word::Between(joint) if open == 0 => {
                 found = match found {
-                    None => Some((i, i)),
-                    Some((first, _)) => Some((first, i)),
+                    Some(spread) if spread.operator < *joint => found,
+                    Some(spread) if spread.operator == *joint => Some(Spread { last: i, ..spread }),
+                    _ => Some(Spread {
+                        operator: *joint,
+                        first: i,
+                        last: i,
+                    }),
                 };
             }
             _ => {}
@@ -63,21 +68,20 @@ fn split(words: &[Word]) -> Result<Option<Parts<'_>>, NoRule>
     if open_brackets(words)? != 0 {
         return Err(NoRule);
     }
-    for operator in JOINTS {
-        if let Some((first, last)) = outside(words, operator) {
-            let at = match operator {
-                Joint::Agrees if first != last => return Err(NoRule),
-                Joint::Agrees | Joint::Implies | Joint::Until => first,
-                Joint::Or | Joint::And => last,
-            };
-            return Ok(Some(Parts {
-                left: &words[..at],
-                operator,
-                right: &words[at + 1..],
-            }));
-        }
-    }
-    Ok(None)
+    let Some(spread) = weakest(words) else {
+        return Ok(None);
+    };
+    let operator = spread.operator;
+    let at = match operator {
+        Joint::Agrees if spread.first != spread.last => return Err(NoRule),
+        Joint::Agrees | Joint::Implies | Joint::Until => spread.first,
+        Joint::Or | Joint::And => spread.last,
+    };
+    Ok(Some(Parts {
+        left: &words[..at],
+        operator,
+        right: &words[at + 1..],
+    }))
 }
 
 // The heap goes from call to call beside the words, since one struct of both would be made anew for each part.

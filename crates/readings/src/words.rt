@@ -28,8 +28,8 @@ impl fmt::Display for Prefix {
     }
 }
 
-// An operator between two parts.
-#[derive(Clone, Copy, PartialEq)]
+// An operator between two parts, the weakest first.
+#[derive(Clone, Copy, PartialEq, PartialOrd)]
 pub enum Joint {
     Agrees,
     Implies,

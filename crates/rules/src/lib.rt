@@ -9,5 +9,6 @@ mod rule;
 mod sentence;
 mod words;
 
+pub use numbered::Numbered;
 pub use refusal::{Fault, RuleRefusal};
 pub use rule::{Rule, Size};

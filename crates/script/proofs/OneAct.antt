@@ -1,5 +1,5 @@
 -- The text of an act has one reading.
-use Rattle.std.proofs.Common.{◌≡◌, ℕ, cond, eqb, List, ◌++◌, get_or, drop, Ok, Err, codes, Result, sym, refl, ap, ◌∙◌, subst}
+use Rattle.std.proofs.Common.{◌≡◌, ℕ, cond, eqb, List, ◌++◌, get_or, drop, Ok, Err, codes, Result, sym, refl, ap, ◌∙◌, subst, arith}
 use Rattle.events.specs.declared.refusal.EventRefusal.{EventRefusal}
 use Rattle.events.specs.declared.refusal.EventRefusal.TheVariants as event
 use Rattle.notation.specs.Refusals.{carried}
@@ -27,6 +27,17 @@ told_carried : (x : EventRefusal) → take_refusal (carried x) ≡ Event x
 told_carried event.CellOver63 = refl
 told_carried event.KindUnknown = refl
 told_carried event.BitNotZero = refl
+
+pub first_byte : (xs ys : List ℕ) → xs ≡ ys → get_or xs 0 0 ≡ get_or ys 0 0
+first_byte xs ys p = ap (λ (l : List ℕ). get_or l 0 0) p
+
+pub no_look : {E : Type 0} (written : E → List ℕ) (means : List ℕ → Result E LineRefusal → Type 0) (text : List ℕ) (r : Result (Act E) TurnRefusal) → ActRead written means text r → text ≡ codes "look" → r ≡ Err NotATurn
+no_look written means text (Ok Open) p e = absurd (omega (arith, first_byte _ _ (sym e ∙ p)))
+no_look written means text (Ok (Take f)) p e = absurd (omega (arith, first_byte _ _ (sym e ∙ p)))
+no_look written means text (Ok Ask) p e = absurd (omega (arith, first_byte _ _ (sym e ∙ p)))
+no_look written means text (Ok (Close n)) p e = absurd (omega (arith, first_byte _ _ (sym e ∙ p.1)))
+no_look written means text (Err NotATurn) p e = refl
+no_look written means text (Err (Event x)) p e = absurd (omega (arith, first_byte _ _ (sym e ∙ p.1)))
 
 module _ {E : Type 0} (written : E → List ℕ) (means : List ℕ → Result E LineRefusal → Type 0) (back : (x : E) → means (written x) (Ok x)) (once : (l : List ℕ) (r s : Result E LineRefusal) → means l r → means l s → r ≡ s) where
   -- an event that is read, as an act
@@ -90,13 +101,3 @@ module _ {E : Type 0} (written : E → List ℕ) (means : List ℕ → Result E 
   act_once text (Err (Event x)) (Ok b) p q = placed_once text (Err (Event x)) (Ok b) (placed_refused text x p) (placed text b q)
   act_once text (Err (Event x)) (Err NotATurn) p q = absurd (q.1 x p)
   act_once text (Err (Event x)) (Err (Event y)) p q = placed_once text (Err (Event x)) (Err (Event y)) (placed_refused text x p) (placed_refused text y q)
-
-  not_look : (text : List ℕ) (r : Result (Act E) TurnRefusal) → text ≡ codes "look" → Placed text r → ⊥
-  not_look text r e p =
-      let k : p.kind ≡ none = sym (kind_is p.kind text r p.here) ∙ ap kind_of e in
-      subst (λ (k : Kind). ReadAs k text r) k p.here
-
-  pub no_look : (text : List ℕ) (r : Result (Act E) TurnRefusal) → ActRead written means text r → text ≡ codes "look" → r ≡ Err NotATurn
-  no_look text (Ok a) p e = absurd (not_look text (Ok a) e (placed text a p))
-  no_look text (Err NotATurn) p e = refl
-  no_look text (Err (Event x)) p e = absurd (not_look text (Err (Event x)) e (placed_refused text x p))

@@ -65,20 +65,26 @@ refused_placed line x (hammer p) = record { seat = Hammer; act = p.0; whole = p.
 refused_placed line x (first p) = record { seat = First; act = p.0; whole = p.1; here = acted_refused (ActRead sheet_line SheetRead) turn.First p.0 x p.2 }
 refused_placed line x (second p) = record { seat = Second; act = p.0; whole = p.1; here = acted_refused (ActRead sheet_line SheetRead) turn.Second p.0 x p.2 }
 
-acted_once : {E : Type 0} (written : E → List ℕ) (means : List ℕ → Result E LineRefusal → Type 0) (back : (x : E) → means (written x) (Ok x)) (once : (l : List ℕ) (r s : Result E LineRefusal) → means l r → means l s → r ≡ s) (f : Act E → Turn SheetEvent MachineEvent) (act : List ℕ) (r s : Turned) → Acted (ActRead written means) f act r → Acted (ActRead written means) f act s → r ≡ s
-acted_once written means back once f act r s p q = p.told ∙ (ap (lifted f) (act_once written means back once act p.done q.done p.read q.read) ∙ sym q.told)
+abbrev pub Single : {A : Type 0} → (A → Type 0) → Type 0
+Single {A} P = (x y : A) → P x → P y → x ≡ y
+
+acted_once : {E : Type 0} (W : List ℕ → Result (Act E) TurnRefusal → Type 0) (f : Act E → Turn SheetEvent MachineEvent) (act : List ℕ) → Single (W act) → (r s : Turned) → Acted W f act r → Acted W f act s → r ≡ s
+acted_once W f act single r s p q = p.told ∙ (ap (lifted f) (single p.done q.done p.read q.read) ∙ sym q.told)
+
+sheet_act_once : (act : List ℕ) → Single (ActRead sheet_line SheetRead act)
+sheet_act_once act = act_once sheet_line SheetRead (λ x. refl) sheet_once act
 
 looked : (act : List ℕ) (r : Turned) → act ≡ codes "look" → Acted (ActRead sheet_line SheetRead) turn.Watch act r → ⊥
-looked act r e p = p.some (no_look sheet_line SheetRead (λ x. refl) sheet_once act p.done p.read e)
+looked act r e p = p.some (no_look sheet_line SheetRead act p.done p.read e)
 
 at_once : (seat : Seat) (act : List ℕ) (r s : Turned) → ReadAt seat act r → ReadAt seat act s → r ≡ s
 at_once Ruler act r s (inl p) (inl q) = p.1 ∙ sym q.1
 at_once Ruler act r s (inl p) (inr q) = absurd (looked act s p.0 q)
 at_once Ruler act r s (inr p) (inl q) = absurd (looked act r q.0 p)
-at_once Ruler act r s (inr p) (inr q) = acted_once sheet_line SheetRead (λ x. refl) sheet_once turn.Watch act r s p q
-at_once Hammer act r s p q = acted_once machine_line MachineRead (λ x. refl) machine_once turn.Plain act r s p q
-at_once First act r s p q = acted_once sheet_line SheetRead (λ x. refl) sheet_once turn.First act r s p q
-at_once Second act r s p q = acted_once sheet_line SheetRead (λ x. refl) sheet_once turn.Second act r s p q
+at_once Ruler act r s (inr p) (inr q) = acted_once (ActRead sheet_line SheetRead) turn.Watch act (sheet_act_once act) r s p q
+at_once Hammer act r s p q = acted_once (ActRead machine_line MachineRead) turn.Plain act (act_once machine_line MachineRead (λ x. refl) machine_once act) r s p q
+at_once First act r s p q = acted_once (ActRead sheet_line SheetRead) turn.First act (sheet_act_once act) r s p q
+at_once Second act r s p q = acted_once (ActRead sheet_line SheetRead) turn.Second act (sheet_act_once act) r s p q
 
 placed_once : (line : List ℕ) (r s : Turned) → Placed line r → Placed line s → r ≡ s
 placed_once line r s p q =

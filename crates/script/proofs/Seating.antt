@@ -34,7 +34,7 @@ RefusedAt Hammer act y = ActRead machine_line MachineRead act (Err y)
 RefusedAt First act y = ActRead sheet_line SheetRead act (Err y)
 RefusedAt Second act y = ActRead sheet_line SheetRead act (Err y)
 
-no_turn : (line : List ℕ) → (line ≡ codes "ruler look" → ⊥) → ((s : Seat) (act : List ℕ) → line ≡ called s ++ act → RefusedAt s act NotATurn) → TurnRead line (Err NotATurn)
+pub no_turn : (line : List ℕ) → (line ≡ codes "ruler look" → ⊥) → ((s : Seat) (act : List ℕ) → line ≡ called s ++ act → RefusedAt s act NotATurn) → TurnRead line (Err NotATurn)
 no_turn line look none = (
   λ t. elim t as (λ u. Written line u → ⊥) [
     | turn.Watch a ↦ λ p. (none Ruler p.0 p.1).0 a p.2

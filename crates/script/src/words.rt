@@ -13,6 +13,8 @@ pub fn reply_words(heap: Global, reply: Option<Reply>) -> Result<String, AllocEr
     ensures { IfOk result (λ s. string_bytes s ≡ reply_words reply) }
 {
     match reply {
+        // The usual reply, which is copied: to format it takes longer.
+        Some(Reply::Taken) => String::from_str(heap, "taken"),
         Some(reply) => format!(in heap; "{reply}"),
         None => String::from_str(heap, "no slip at that place"),
     }

@@ -18,7 +18,7 @@ use Rattle.session.specs.Desks.{Seat, Standing, StandsAfter, TurnLaw}
 abbrev pub Goes : {E B : Type 0} → Standing E B → B → List (Exchange E) → B → Type 0
 Goes {E} S b calls b' = (n : ℕ) (rule : List E → Bool) (l : Log E) → S n rule b l → AllAnswered n rule l calls × S n rule b' (log_from n l calls)
 
-one_goes : {E B : Type 0} (S : Standing E B) (b b' : B) (c : Call E) (r : Reply) → Lawful S b c r b' → Goes S b (exchange c r) b'
+pub one_goes : {E B : Type 0} (S : Standing E B) (b b' : B) (c : Call E) (r : Reply) → Lawful S b c r b' → Goes S b (exchange c r) b'
 one_goes S b b' c r law n rule l st = let p = law n rule l st in ((p.0, tt), p.1)
 
 module _ {E : Type 0} (n : ℕ) (rule : List E → Bool) where

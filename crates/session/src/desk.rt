@@ -1,3 +1,4 @@
+ghost use Rattle.std.specs.Prelude.{◌≡◌, vec_capacity};
 ghost use Rattle.bench.specs.Calls.{LookStands};
 ghost use Rattle.session.specs.Desks.{TurnLaw};
 ghost use Rattle.session.specs.Places.{HasRoom, TakesOnePlace};
@@ -35,6 +36,7 @@ where
         requires { HasRoom held.old 1 }
         ensures law { TurnLaw (LookStands L.Observer.rule L.Observer.rest) P.Calls.stands X.Calls.stands Y.Calls.stands self.old held.old.items turn result self.new held.new.items }
         ensures room { TakesOnePlace held.old held.new }
+        ensures capacity { vec_capacity held.new ≡ vec_capacity held.old }
     {
         // Each arm acts at a bench of a type of its own, so no arm can serve two.
         match turn {

@@ -1,3 +1,4 @@
+ghost use Rattle.std.specs.Prelude.{◌≡◌, vec_capacity};
 ghost use Rattle.session.specs.Acts.{ActLaw};
 ghost use Rattle.session.specs.Places.{HasRoom, TakesOnePlace};
 
@@ -13,6 +14,7 @@ pub(crate) fn perform<B: Calls>(
     requires { HasRoom held.old 1 }
     ensures law { ActLaw B.Calls.stands bench.old held.old.items act result bench.new held.new.items }
     ensures room { TakesOnePlace held.old held.new }
+    ensures capacity { vec_capacity held.new ≡ vec_capacity held.old }
 {
     // Each act is another call with another answer, so there is no one step that could be passed in.
     Some(match act {

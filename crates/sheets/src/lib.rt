@@ -6,5 +6,6 @@ pub mod ports;
 pub mod ruler;
 
 pub use measure::RulerRefusal;
+pub use numbered::Numbered;
 pub use ports::{Flow, FlowPort, Hammer, HammerPort};
 pub use ruler::Ruler;
